@@ -1,0 +1,6 @@
+pub mod Chains
+pub mod Example
+pub mod Keeps
+pub mod Loops
+pub mod Undo
+pub mod Xors

@@ -1,0 +1,2 @@
+pub mod Cbc
+pub mod Laws

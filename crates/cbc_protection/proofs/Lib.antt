@@ -1,0 +1,5 @@
+pub mod Pads
+pub mod Sealed
+pub mod Checked
+pub mod Opened
+pub mod Agrees

@@ -1,0 +1,9 @@
+pub mod Linear
+pub mod Turns
+pub mod Values
+pub mod Hashes
+pub mod Counts
+pub mod Seals
+pub mod Undoing
+pub mod Opening
+pub mod Vectors

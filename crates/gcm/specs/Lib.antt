@@ -1,0 +1,9 @@
+pub mod Field
+pub mod Blocks
+pub mod Ghash
+pub mod Counter
+pub mod Gcm
+pub mod Laws
+pub mod Tables
+pub mod View
+pub mod Vectors

@@ -1,0 +1,7 @@
+-- What the code's `Hmac` stands for.
+use Rattle.sm3.specs.View.{view}
+use Rattle.hmac_sm3.specs.Keyed.{Keyed}
+use Rattle.hmac_sm3.specs.declared.mac.Hmac.{Hmac}
+
+abbrev pub seen : Hmac → Keyed
+seen h = record { inner = view (h .inner); outer = view (h .outer) }

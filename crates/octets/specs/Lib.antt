@@ -1,0 +1,4 @@
+pub mod Octets
+pub mod Numbers
+pub mod Laid
+pub mod Roles

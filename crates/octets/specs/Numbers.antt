@@ -1,0 +1,15 @@
+-- Numbers in two, three and eight octets, the highest first.
+-- The top octet has no remainder taken, so that reading back gives the number whatever its size.
+use mathlib.Core.List.{List, [], _∷_}
+use Prim.Native.Nat.{ℕ, _/_, _%_}
+
+abbrev pub two : ℕ → List ℕ
+two n = n / 256 ∷ n % 256 ∷ []
+
+abbrev pub three : ℕ → List ℕ
+three n = n / 65536 ∷ n / 256 % 256 ∷ n % 256 ∷ []
+
+abbrev pub eight : ℕ → List ℕ
+eight n =
+    n / 72057594037927936 ∷ n / 281474976710656 % 256 ∷ n / 1099511627776 % 256 ∷ n / 4294967296 % 256
+    ∷ n / 16777216 % 256 ∷ n / 65536 % 256 ∷ n / 256 % 256 ∷ n % 256 ∷ []

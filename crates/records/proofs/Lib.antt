@@ -1,0 +1,4 @@
+pub mod Framing
+pub mod Receiving
+pub mod Numbering
+pub mod Alerting

@@ -1,0 +1,4 @@
+mod Stepping
+mod Filling
+pub mod Running
+mod Updating

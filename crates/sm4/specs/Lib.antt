@@ -1,0 +1,6 @@
+pub mod Cipher
+pub mod Laws
+pub mod Sbox
+pub mod Transform
+pub mod View
+pub mod Words
