@@ -81,9 +81,10 @@ module _ (k : Keying) (n t : ℕ) (l place : List ℕ) (w : whole l ≡ true) wh
       let lc : length c ≡ content-size Y = ap length (says .2) ∙ length-take-le (content-size Y) Y hs in
       let sz : size ≡ content-size Y = y .2 ∙ lc in
       let hz : size ≤ length Y = omega arith in
-      let o : cbc-opening k n t l ≡ Ok c = opening-is ∙ ap (λ v. okOr v Refused) (y .1) in
-      (ap Ok (y .2) ∙ ap opened-length (sym o),
-       cleared Y q v size (length place) h hz eq ev ∙ ap₂ (λ a b. a ++ replicate (length place - b) 0) (ap (λ i. take i Y) sz ∙ sym (says .2)) (y .2) ∙ ap (λ r. placed r place) (sym o))
+      let o : cbc-opening k n t l ≡ Ok c = opening-is ∙ ap (λ v. okOr v Refused) (y .1) in (
+        ap Ok (y .2) ∙ ap opened-length (sym o),
+        cleared Y q v size (length place) h hz eq ev ∙ ap₂ (λ a b. a ++ replicate (length place - b) 0) (ap (λ i. take i Y) sz ∙ sym (says .2)) (y .2) ∙ ap (λ r. placed r place) (sym o),
+      )
 
   pub opens-wrong : {z : List ℕ} → None ≡ mapped length (checked (peer (k .role)) (k .material) n t (decrypted (peer (k .role)) (k .material) l))
       → z ≡ replicate (length place) 0
@@ -153,5 +154,5 @@ module _ (k : Keying) (n t : ℕ) (l place : List ℕ) (N : ℕ) (h : 64 ≤ len
         let a : length (take (length Q - size) (drop size Q)) ≡ length place - size = ap length (take-rest Q size) ∙ length-drop size Q ∙ ap (λ i. i - size) lq in
         let hy : length (decrypted (peer (k .role)) (k .material) l) ≤ length place = omega arith in
         let z = opens-right k n t l place (is-whole l h e) hy (text-there ∙ ap (λ x. laid x 0 Y) ez)
-            (c ∙ ap (λ y. mapped length (checked (peer (k .role)) (k .material) n t y)) read-there) (q ∙ ap (λ i. replicate i 0) a) in
+        (c ∙ ap (λ y. mapped length (checked (peer (k .role)) (k .material) n t y)) read-there) (q ∙ ap (λ i. replicate i 0) a) in
         (z .0, ap (λ i. putMid size (i - size) Q v) lq ∙ z .1)

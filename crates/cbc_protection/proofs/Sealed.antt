@@ -43,10 +43,11 @@ text-laid o c g at {q1} {q2} {q3} {b} {e} {r} lg h p1 pb p2 pe p3 pr =
     let a : length (c ++ g) ≡ length c + 32 = length-append c g ∙ ap (λ n. length c + n) lg in
     let b1 : b ≡ at + length c = omega arith in
     let e1 : e ≡ at + length (c ++ g) = omega arith in
-    let n = length-padded c g lg in
-    (omega arith,
-     p3 ∙ ap₂ (λ x y. laid x e (pad (least-pad y))) (p2 ∙ ap (λ x. laid x b g) p1 ∙ laid-laid o c g at b b1) (sym a)
-     ∙ laid-laid o (c ++ g) (pad (least-pad (length (c ++ g)))) at e e1)
+    let n = length-padded c g lg in (
+      omega arith,
+      p3 ∙ ap₂ (λ x y. laid x e (pad (least-pad y))) (p2 ∙ ap (λ x. laid x b g) p1 ∙ laid-laid o c g at b b1) (sym a)
+          ∙ laid-laid o (c ++ g) (pad (least-pad (length (c ++ g)))) at e e1,
+    )
 
 -- the text laid behind the IV, encrypted in place
 pub sealed-laid : (K fr T o : List ℕ) {K′ iv q1 q2 w : List ℕ} {at end : ℕ} → length fr ≡ 16 → length T % 16 ≡ 0 → 16 + length T ≤ length o
@@ -64,9 +65,10 @@ sealed-laid K fr T o {K′} {iv} {q1} {q2} {w} {at} {end} lf lt h ek ei e1 ea e2
     let w1 : w ≡ E =
     ew ∙ ap (λ x. cond (whole-blocks x) (cbc-encrypt K′ iv x) x) part ∙ cond-true _ _ _ (eq-eqb _ _ lt) ∙ ap₂ (λ x y. cbc-encrypt x y T) ek ei in
     let lw : length w ≡ length T = ap length w1 ∙ lE in
-    let n = length-append fr E in
-    (omega arith,
-     ap (λ x. putMid at (end - at) x w) e2 ∙ over-laid q1 T w at end ee he lw ∙ ap₂ (λ x y. laid x at y) e1 w1 ∙ laid-laid o fr E 0 at a0)
+    let n = length-append fr E in (
+      omega arith,
+      ap (λ x. putMid at (end - at) x w) e2 ∙ over-laid q1 T w at end ee he lw ∙ ap₂ (λ x y. laid x at y) e1 w1 ∙ laid-laid o fr E 0 at a0,
+    )
 
 pub sealed-length : Sealed-length
 sealed-length k n t c f h =

@@ -4,6 +4,7 @@ use hex_text::decode;
 use std::alloc::AllocError;
 use std::alloc::Global;
 use std::alloc::Refused;
+use std::fmt;
 
 /// What a line was opened with.
 #[derive(Drop)]
@@ -13,6 +14,10 @@ pub struct Input {
     pub server_random: [u8; 32],
     /// The handshake messages that both check values are made over, whole, in their order.
     pub messages: Vec<Vec<u8>>,
+    /// A reading of the gauge, two blocks long.
+    pub reading: [u8; 32],
+    /// Octets that the gauge uses once, for sealing.
+    pub fresh: [u8; 16],
 }
 
 /// Why the input was not taken.
@@ -24,6 +29,31 @@ pub enum InputFault {
     NotDigits(usize),
     WrongLength { expected: usize, found: usize },
     NoMemory,
+}
+
+pub impl fmt::Display for InputFault as InputFaultDisplay {
+    fn fmt<W: fmt::Write>(&self, f: &mut fmt::Formatter<W>) -> fmt::Result {
+        match self {
+            InputFault::NoValue => write!(
+                f,
+                "a name, a blank and octets in hexadecimal are expected"
+            ),
+            InputFault::UnknownName => write!(
+                f,
+                "unknown name: premaster, client_random, server_random, message, reading or fresh is expected"
+            ),
+            InputFault::OddDigits => write!(f, "an odd number of hexadecimal digits"),
+            InputFault::NotDigits(at) => write!(
+                f,
+                "no hexadecimal digits at place {at} of the value"
+            ),
+            InputFault::WrongLength { expected, found } => write!(
+                f,
+                "{expected} octets are expected, {found} were found"
+            ),
+            InputFault::NoMemory => write!(f, "out of memory"),
+        }
+    }
 }
 
 impl From<AllocError> for InputFault as InputFaultFromAlloc {
@@ -67,6 +97,8 @@ impl Input {
             client_random: [0; 32],
             server_random: [0; 32],
             messages: Vec::new(heap),
+            reading: [0; 32],
+            fresh: [0; 16],
         }
     }
 
@@ -84,6 +116,8 @@ impl Input {
             "premaster" => copy_whole(octets.as_slice(), &mut self.premaster),
             "client_random" => copy_whole(octets.as_slice(), &mut self.client_random),
             "server_random" => copy_whole(octets.as_slice(), &mut self.server_random),
+            "reading" => copy_whole(octets.as_slice(), &mut self.reading),
+            "fresh" => copy_whole(octets.as_slice(), &mut self.fresh),
             "message" => {
                 self.messages.push(octets)?;
                 Ok(())

@@ -1,11 +1,16 @@
-//! A line between a tide gauge and a tariff office, step by step.
+//! A line between a tide gauge and a tariff office, layer by layer, on data from standard input.
 mod input;
+mod keys;
+mod modes;
+mod protect;
+mod show;
 
 use input::Input;
-use input::InputFault;
+use input::InputFaultDisplay;
 use std::error::AnyError;
 
-fn run(rt: &LibcRuntime) -> Result<(), AnyError> {
+/// Reads the input, and says which line is at fault if one is.
+fn read_input(rt: &LibcRuntime) -> Result<Input, AnyError> {
     let heap = rt.alloc();
     let mut input = Input::new(heap);
     let mut number = 0u64;
@@ -15,14 +20,19 @@ fn run(rt: &LibcRuntime) -> Result<(), AnyError> {
         match input.take_line(heap, text.as_str()) {
             Ok(()) => {}
             Err(fault) => {
-                eprintln!(rt, "line {number}: bad")?;
-                return Err("bad".into());
+                eprintln!(rt, "line {number} of the input: {fault}")?;
+                return Err("the input was not taken; nothing was computed".into());
             }
         }
     }
-    let n = input.messages.len();
-    println!(rt, "{n} messages")?;
-    Ok(())
+    Ok(input)
+}
+
+fn run(rt: &LibcRuntime) -> Result<(), AnyError> {
+    let input = read_input(rt)?;
+    let keys = keys::derive(rt, &input)?;
+    modes::show_modes(rt, &input, &keys)?;
+    protect::show_protections(rt, &input, &keys)
 }
 
 fn main(rt: LibcRuntime) -> Result<(), AnyError> {

@@ -129,7 +129,13 @@ impl CbcKeys {
             return None;
         }
         let size = n - (p + TRAILER);
-        let mac = tag_of(self.role.peer(), &self.material, number, kind, &text[0..size]);
+        let mac = tag_of(
+            self.role.peer(),
+            &self.material,
+            number,
+            kind,
+            &text[0..size],
+        );
         if !same(&text[size..size + 32], &mac) {
             return None;
         }

@@ -30,7 +30,7 @@ returns-then-not-same-2 c =
     let q = c .typed .text (length x - 1) in
     let p : told-pad x < 256 = omega arith in
     let w = well-from (peer (k .role)) (k .material) (c .args .number) (c .args .kind) x (c .if-n-p .left)
-        (sym (same-pad x (c .repeated-octets .result) p (c .repeated-octets .ensures) (c .same .ensures)) ∙ c .if-not-same .left) in
+    (sym (same-pad x (c .repeated-octets .result) p (c .repeated-octets .ensures) (c .same .ensures)) ∙ c .if-not-same .left) in
     check-mac (peer (k .role)) (k .material) (c .args .number) (c .args .kind) x w
     (sym (same-mac (peer (k .role)) (k .material) (c .args .number) (c .args .kind) x (c .peer .ensures) (c .tag-of-mac .ensures) (c .same-2 .ensures)) ∙ c .if-not-same-2 .taken)
 
@@ -41,6 +41,6 @@ returns c =
     let q = c .typed .text (length x - 1) in
     let p : told-pad x < 256 = omega arith in
     let w = well-from (peer (k .role)) (k .material) (c .args .number) (c .args .kind) x (c .if-n-p .left)
-        (sym (same-pad x (c .repeated-octets .result) p (c .repeated-octets .ensures) (c .same .ensures)) ∙ c .if-not-same .left) in
+    (sym (same-pad x (c .repeated-octets .result) p (c .repeated-octets .ensures) (c .same .ensures)) ∙ c .if-not-same .left) in
     check-right (peer (k .role)) (k .material) (c .args .number) (c .args .kind) x w
     (sym (same-mac (peer (k .role)) (k .material) (c .args .number) (c .args .kind) x (c .peer .ensures) (c .tag-of-mac .ensures) (c .same-2 .ensures)) ∙ c .if-not-same-2 .left)

@@ -25,7 +25,7 @@ returns-in-None c =
     let k = c .args .self .now in
     let l = c .args .octets .now in
     let z = opened-none (keying-of k) (c .args .number) (c .args .kind) l (c .args .place .now) (length l - 16) (omega arith) (omega arith) (omega arith) refl
-        (c .wipe .ensures) (k .reads) (c .sixteen-iv .ensures) (c .lay .ensures .after) (c .decrypt .ensures .after) (c .in-None .ensures tt) (c .wipe-in-None .ensures) in
+    (c .wipe .ensures) (k .reads) (c .sixteen-iv .ensures) (c .lay .ensures .after) (c .decrypt .ensures .after) (c .in-None .ensures tt) (c .wipe-in-None .ensures) in
     record { answer = z .0; after = z .1 }
 
 pub returns-in-Some : need.returns-in-Some
@@ -33,5 +33,5 @@ returns-in-Some c =
     let k = c .args .self .now in
     let l = c .args .octets .now in
     let z = opened-some (keying-of k) (c .args .number) (c .args .kind) l (c .args .place .now) (length l - 16) (omega arith) (omega arith) (omega arith) refl
-        (c .wipe .ensures) (k .reads) (c .sixteen-iv .ensures) (c .lay .ensures .after) (c .decrypt .ensures .after) (c .in-Some .size) (c .in-Some .ensures tt) (c .wipe-in-Some .ensures) in
+    (c .wipe .ensures) (k .reads) (c .sixteen-iv .ensures) (c .lay .ensures .after) (c .decrypt .ensures .after) (c .in-Some .size) (c .in-Some .ensures tt) (c .wipe-in-Some .ensures) in
     record { answer = z .0; after = z .1 }
