@@ -122,3 +122,16 @@ line("CBC, suite e013", seal_cbc(m96, 0, 23, reading, fresh))
 line("GCM, suite e053", seal_gcm(m40, 0, 23, reading))
 line("a pair of both, suite e019", seal_cbc(m96, 0, 23, reading, fresh))
 line("the same pair keyed anew, suite e059", seal_gcm(m40, 0, 23, reading))
+
+hello = b"\1\1" + client + b"\0" + struct.pack(">HHH", 4, 0xE053, 0xE013) + b"\1\0"
+hello = b"\1" + struct.pack(">I", len(hello))[1:] + hello
+print("Messages")
+show("ClientHello", hello)
+show("in a record of its own", b"\x16\1\1" + struct.pack(">H", len(hello)) + hello)
+show("read back, random", client)
+print("  read back, suites: 2")
+print("    e053")
+print("    e013")
+print("  read back, compression 00 offered: true")
+print("  the same with an octet behind its compressions")
+print("  refused: alert 50, found in layer message")

@@ -19,10 +19,11 @@ filled xs = xs ++ replicate (64 - length xs) 0
 abbrev pub key-block : List ℕ → List ℕ
 key-block key = filled (shortened key)
 
--- the octet 36 (hexadecimal) goes into every octet of the inner key, and 5c into every octet of the outer
+-- the octet that goes into every octet of the inner key
 abbrev pub ipad : ℕ
 ipad = 0x36
 
+-- and into every octet of the outer key
 abbrev pub opad : ℕ
 opad = 0x5c
 

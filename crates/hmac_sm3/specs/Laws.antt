@@ -12,6 +12,7 @@ use Rattle.hmac_sm3.specs.Prf.{prf}
 abbrev pub Tag-length : Type 0
 Tag-length = (key text : List ℕ) → length (hmac key text) ≡ 32
 
+-- which are octets
 abbrev pub Tag-octets : Type 0
 Tag-octets = (key text : List ℕ) → Octets (hmac key text)
 
@@ -23,6 +24,7 @@ Tag-pieces = (key a b : List ℕ) → tag (fed (fed (keyed key) a) b) ≡ hmac k
 abbrev pub Prf-length : Type 0
 Prf-length = (secret label seed : List ℕ) (n : ℕ) → length (prf secret label seed n) ≡ n
 
+-- and they are octets
 abbrev pub Prf-octets : Type 0
 Prf-octets = (secret label seed : List ℕ) (n : ℕ) → Octets (prf secret label seed n)
 

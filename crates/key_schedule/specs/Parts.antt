@@ -27,11 +27,12 @@ cbc material =
     (Some (record { client-mac-key = part 0 32 material; server-mac-key = part 32 32 material; client-key = part 64 16 material; server-key = part 80 16 material }))
     None
 
--- the MAC key and the key that one side writes with
+-- the MAC key that one side writes with
 abbrev pub cbc-mac-key : Role → Cbc → List ℕ
 cbc-mac-key Client keys = keys .client-mac-key
 cbc-mac-key Server keys = keys .server-mac-key
 
+-- the key that one side writes with
 abbrev pub cbc-key : Role → Cbc → List ℕ
 cbc-key Client keys = keys .client-key
 cbc-key Server keys = keys .server-key
@@ -50,11 +51,12 @@ gcm material =
     (Some (record { client-key = part 0 16 material; server-key = part 16 16 material; client-iv = part 32 4 material; server-iv = part 36 4 material }))
     None
 
--- the key and the IV that one side writes with
+-- the key that one side writes with
 abbrev pub gcm-key : Role → Gcm → List ℕ
 gcm-key Client keys = keys .client-key
 gcm-key Server keys = keys .server-key
 
+-- the IV that one side writes with
 abbrev pub gcm-iv : Role → Gcm → List ℕ
 gcm-iv Client keys = keys .client-iv
 gcm-iv Server keys = keys .server-iv

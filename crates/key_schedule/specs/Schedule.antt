@@ -1,4 +1,4 @@
--- The keys of a connection and the check of its handshake: GB/T 38636-2020, 6.5 and 6.4.5 (Finished).
+-- The keys of a connection and the check of its handshake: GB/T 38636-2020, 6.5, and 6.4.5.10 (Finished).
 -- Randoms, secrets and digests are lists of octets; the labels are the octets of their ASCII texts.
 use Prim.Native.Nat.{ℕ}
 use mathlib.Core.List.{List, _++_}

@@ -11,25 +11,30 @@ use Rattle.key_schedule.specs.Schedule.{master-secret, key-material, verify-da
 abbrev pub premaster : List ℕ
 premaster = 1 ∷ 1 ∷ counting 2 46
 
--- 20 .. 3f, and a0 .. bf, and a digest 40 .. 5f
+-- 20 .. 3f
 abbrev pub client-random : List ℕ
 client-random = counting 32 32
 
+-- a0 .. bf
 abbrev pub server-random : List ℕ
 server-random = counting 160 32
 
+-- 40 .. 5f, for a digest of the messages
 abbrev pub digest : List ℕ
 digest = counting 64 32
 
+-- the master secret of these
 abbrev pub master : List ℕ
 master =
     0x07 ∷ 0x95 ∷ 0xde ∷ 0xb3 ∷ 0x41 ∷ 0xf8 ∷ 0xfc ∷ 0x3e ∷ 0x71 ∷ 0xae ∷ 0xa6 ∷ 0xb3 ∷ 0x73 ∷ 0x83 ∷ 0xc1 ∷ 0xb9
     ∷ 0xd8 ∷ 0x4a ∷ 0xc6 ∷ 0xa7 ∷ 0x02 ∷ 0x7c ∷ 0x73 ∷ 0x23 ∷ 0x68 ∷ 0x14 ∷ 0x38 ∷ 0x5d ∷ 0x6e ∷ 0xd3 ∷ 0x7c ∷ 0x5d
     ∷ 0x29 ∷ 0x48 ∷ 0x6f ∷ 0x4d ∷ 0xc5 ∷ 0x1a ∷ 0xb6 ∷ 0x75 ∷ 0xae ∷ 0x68 ∷ 0xf5 ∷ 0x09 ∷ 0xc1 ∷ 0x5d ∷ 0x12 ∷ 0xf1 ∷ []
 
+-- what it is made of
 abbrev pub Master : Type 0
 Master = master-secret premaster client-random server-random ≡ master
 
+-- the material of a CBC suite, of which that of a GCM suite is the beginning
 abbrev pub Material : Type 0
 Material =
     key-material master client-random server-random 96 ≡
@@ -44,8 +49,10 @@ Material =
 abbrev pub Other-order : Type 0
 Other-order = key-material master client-random server-random 96 ≡ key-material master server-random client-random 96 → ⊥
 
+-- what the client sends
 abbrev pub Client-verify : Type 0
 Client-verify = verify-data master Client digest ≡ (0x98 ∷ 0x0a ∷ 0x98 ∷ 0xa9 ∷ 0x49 ∷ 0xaf ∷ 0x46 ∷ 0x48 ∷ 0x01 ∷ 0x16 ∷ 0xe7 ∷ 0x32 ∷ [])
 
+-- what the server sends
 abbrev pub Server-verify : Type 0
 Server-verify = verify-data master Server digest ≡ (0xfd ∷ 0xfe ∷ 0x20 ∷ 0xec ∷ 0x2e ∷ 0x0e ∷ 0x04 ∷ 0x9c ∷ 0x07 ∷ 0x37 ∷ 0xb5 ∷ 0xdc ∷ [])

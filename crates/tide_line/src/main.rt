@@ -1,4 +1,5 @@
 //! A line between a tide gauge and a tariff office, layer by layer, on data from standard input.
+mod hello;
 mod input;
 mod keys;
 mod modes;
@@ -32,7 +33,8 @@ fn run(rt: &LibcRuntime) -> Result<(), AnyError> {
     let input = read_input(rt)?;
     let keys = keys::derive(rt, &input)?;
     modes::show_modes(rt, &input, &keys)?;
-    protect::show_protections(rt, &input, &keys)
+    protect::show_protections(rt, &input, &keys)?;
+    hello::show_messages(rt, &input)
 }
 
 fn main(rt: LibcRuntime) -> Result<(), AnyError> {

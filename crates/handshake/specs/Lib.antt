@@ -1,0 +1,12 @@
+pub mod Parts
+pub mod Frames
+pub mod Hellos
+pub mod Certificates
+pub mod Exchanges
+pub mod Types
+pub mod Kinds
+pub mod Faults
+pub mod Places
+pub mod Views
+pub mod Laws
+pub mod Vectors

@@ -1,0 +1,31 @@
+//! Reading handshake messages: the first of what came in, and each kind into parts of its octets.
+mod certificates;
+mod client_hello;
+mod endings;
+mod exchanges;
+mod faults;
+mod frames;
+mod messages;
+mod parts;
+mod server_hello;
+mod suites;
+mod version;
+
+pub use certificates::Certificate;
+pub use certificates::CertificateMessage;
+pub use certificates::CertificateRead;
+pub use client_hello::ClientHello;
+pub use client_hello::ClientHelloMessage;
+pub use client_hello::ClientHelloRead;
+pub use endings::FinishedRead;
+pub use endings::ServerHelloDoneRead;
+pub use exchanges::ClientKeyExchangeRead;
+pub use exchanges::ServerKeyExchangeRead;
+pub use frames::FirstMessage;
+pub use frames::FirstMessagePartialEq;
+pub use frames::first_message;
+pub use frames::is_message_ready;
+pub use frames::read_message;
+pub use messages::ReadMessage;
+pub use server_hello::ServerHelloRead;
+pub use suites::SuiteList;

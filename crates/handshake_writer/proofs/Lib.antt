@@ -1,0 +1,3 @@
+pub mod Layings
+pub mod Sizes
+pub mod Written
