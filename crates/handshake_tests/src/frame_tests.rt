@@ -4,6 +4,7 @@ use handshake_reader::FirstMessage;
 use handshake_reader::FirstMessagePartialEq;
 use handshake_reader::first_message;
 use handshake_reader::is_message_ready;
+use octets::lay;
 use std::test::*;
 
 /// What is buffered: its first octets, how many came, and whether a message is ready, not ready or too long.
@@ -57,14 +58,11 @@ fn first_messages() -> Result<(), Fail> {
 #[test]
 fn ready_with_the_last_octet() -> Result<(), Fail> {
     let mut octets = [0u8; 60];
-    for i in 0..47usize {
-        octets[i] = CLIENT_HELLO[i];
-    }
-    for n in 0..47usize {
-        check(!is_message_ready(&octets[..n]))?;
-    }
-    for n in 47..60usize {
-        check(is_message_ready(&octets[..n]))?;
+    lay(&mut octets, 0, &CLIENT_HELLO);
+    let whole: &[u8] = &octets;
+    for n in 0..60usize {
+        let came = whole.get(0..n).ok_or("too long")?;
+        check_eq(is_message_ready(came), n >= 47)?;
     }
     Ok(())
 }

@@ -12,9 +12,6 @@ use handshake::ServerKeyExchange;
 use handshake::ServerKeyExchangeMessage;
 use handshake_reader::ServerHelloRead;
 use handshake_reader::read_message;
-use handshake_writer::CertificateChain;
-use handshake_writer::CertificateChainMessage;
-use handshake_writer::CertificateChainWrite;
 use handshake_writer::ClientKeyExchangeWrite;
 use handshake_writer::ClientOffer;
 use handshake_writer::ClientOfferMessage;
@@ -110,22 +107,6 @@ fn hellos_written() -> Result<(), Fail> {
 #[test]
 fn others_written() -> Result<(), Fail> {
     check_written(
-        &CertificateChain {
-            certificates: &[&[9], &[8, 8]],
-        },
-        &[11, 0, 0, 12, 0, 0, 9, 0, 0, 1, 9, 0, 0, 2, 8, 8],
-    )?;
-    check_written(
-        &CertificateChain { certificates: &[] },
-        &[11, 0, 0, 3, 0, 0, 0],
-    )?;
-    check_refused(
-        &CertificateChain {
-            certificates: &[&[9], &[]],
-        },
-        0,
-    )?;
-    check_written(
         &ServerKeyExchange { signature: &[5] },
         &[12, 0, 0, 3, 0, 1, 5],
     )?;
@@ -157,21 +138,12 @@ fn others_written() -> Result<(), Fail> {
     )
 }
 
-/// What the ends write at its longest: two certificates of 1,500, and a signature of 512.
+/// A signature of 512 octets, the longest that the ends write.
 #[test]
 fn longest_written() -> Result<(), Fail> {
-    let certificate = [6u8; 1500];
-    let octets: &[u8] = &certificate;
-    let mut out = [0u8; 3013];
-    let chain = CertificateChain {
-        certificates: &[octets, octets],
-    };
-    check_eq(write_message(&chain, &mut out, 0), Some(3013))?;
-    check_eq(write_message(&chain, &mut out, 1), None)?;
-    check(same(&out[..10], &[11, 0, 11, 193, 0, 11, 190, 0, 5, 220]))?;
     let mut out = [0u8; 518];
     let exchange = ServerKeyExchange {
-        signature: &octets[..512],
+        signature: &[6; 512],
     };
     check_eq(write_message(&exchange, &mut out, 0), Some(518))?;
     check(same(&out[..7], &[12, 0, 2, 2, 2, 0, 6]))
