@@ -1,4 +1,6 @@
 //! The pieces for the bench: what an end does with ten small records, and how long CBC records are, as one fact.
+#![tactic(auto)]
+
 ghost use Rattle.bench_pieces.specs.Pieces.{Pieces};
 
 /// All of the pieces stand.

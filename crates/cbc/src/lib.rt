@@ -1,4 +1,6 @@
 //! Cipher block chaining (NIST SP 800-38A, 6.2) over SM4, in place, on whole blocks of 16 octets.
+#![tactic(auto)]
+
 mod blocks;
 mod laws;
 mod mode;

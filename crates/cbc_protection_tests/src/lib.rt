@@ -1,4 +1,6 @@
 //! CBC protection against the records of another implementation, and against damage.
+#![tactic(auto)]
+
 #[cfg(test)]
 mod tests;
 #[cfg(test)]

@@ -1,4 +1,6 @@
 //! What an answer of the key card does to an end: the inside of the call answer.
+#![tactic(auto)]
+
 mod answering;
 mod greeting;
 mod keying;

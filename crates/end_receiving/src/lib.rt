@@ -1,4 +1,6 @@
 //! What the first record received does to an end: the inside of the call hand in.
+#![tactic(auto)]
+
 mod receipt;
 mod receiving;
 

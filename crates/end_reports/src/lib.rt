@@ -1,4 +1,6 @@
 //! What a call tells, and how an end leaves the line with an alert: the inside of `endpoint`.
+#![tactic(auto)]
+
 mod leaving;
 mod report;
 

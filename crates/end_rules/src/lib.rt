@@ -1,5 +1,7 @@
 //! The decisions of a line end that need no state: why a call is refused, whether an answer fits, what the content
 //! of a record does, and what the body of a handshake message does.
+#![tactic(auto)]
+
 mod answer;
 mod bounds;
 mod content;

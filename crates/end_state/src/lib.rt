@@ -1,4 +1,6 @@
 //! What an end holds beside its record protection, and how each step changes it in place.
+#![tactic(auto)]
+
 mod buffer;
 mod keys;
 mod line_end;

@@ -1,4 +1,6 @@
 //! What the first message of the buffer does to an end: the inside of the call turn.
+#![tactic(auto)]
+
 mod awaited;
 mod judging;
 mod turning;

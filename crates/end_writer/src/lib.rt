@@ -1,6 +1,8 @@
 //! The records that an end writes over its output: bare or sealed, and handshake messages each in a record of its own.
 //!
 //! The functions ask for lengths and room in `requires`: an end has tested both before it calls them.
+#![tactic(auto)]
+
 mod finishing;
 mod flight;
 mod handshakes;

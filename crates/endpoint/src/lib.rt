@@ -1,4 +1,6 @@
 //! The two ends of a line: the client end in the gauge and the server end in the office.
+#![tactic(auto)]
+
 mod answering;
 mod closing;
 mod end;

@@ -1,4 +1,6 @@
 //! SM4 in Galois/Counter Mode (NIST SP 800-38D): authenticated encryption with nonces of 12 octets and tags of 16.
+#![tactic(auto)]
+
 mod blocks;
 mod counter;
 mod field;

@@ -1,4 +1,6 @@
 //! Record protection by SM4 in Galois/Counter Mode: the suites e053 and e059.
+#![tactic(auto)]
+
 mod interface;
 mod keys;
 mod laws;

@@ -1,4 +1,6 @@
 //! SM4 in Galois/Counter Mode against the values of other implementations.
+#![tactic(auto)]
+
 #[cfg(test)]
 mod tests;
 #[cfg(test)]

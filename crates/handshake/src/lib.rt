@@ -1,4 +1,6 @@
 //! Handshake messages as they are defined: their types, layouts and laws, and the parts that both directions share.
+#![tactic(auto)]
+
 mod endings;
 mod exchanges;
 mod laws;

@@ -1,4 +1,6 @@
 //! Reading handshake messages: the first of what came in, and each kind into parts of its octets.
+#![tactic(auto)]
+
 mod certificates;
 mod client_hello;
 mod endings;

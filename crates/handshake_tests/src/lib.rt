@@ -1,4 +1,6 @@
 //! Handshake messages against tables of cases.
+#![tactic(auto)]
+
 #[cfg(test)]
 mod cases;
 #[cfg(test)]

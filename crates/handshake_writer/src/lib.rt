@@ -1,4 +1,6 @@
 //! Writing handshake messages: one frame for every kind, and the body of each.
+#![tactic(auto)]
+
 mod chain;
 mod client_offer;
 mod endings;

@@ -1,4 +1,6 @@
 //! Octets written in hexadecimal, read for the programs.
+#![tactic(auto)]
+
 ghost use Rattle.std.specs.Prelude.{◌≡◌, ℕ, ◌+◌, ◌*◌, ◌<◌, length, Some, None, MatchResult};
 ghost use Rattle.hex_text.specs.Hex.{digit, pair, decoded};
 ghost use Rattle.hex_text.specs.Faults.{Told};

@@ -1,4 +1,6 @@
 //! HMAC (RFC 2104) with SM3, and the pseudo-random function of GB/T 38636-2020 on it.
+#![tactic(auto)]
+
 mod expand;
 mod laws;
 mod mac;

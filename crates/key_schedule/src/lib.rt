@@ -1,4 +1,6 @@
 //! The keys of a connection: master secret, key material and its parts, and the verify data of a handshake.
+#![tactic(auto)]
+
 mod cbc_parts;
 mod derive;
 mod gcm_parts;

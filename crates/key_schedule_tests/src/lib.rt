@@ -2,6 +2,8 @@
 //!
 //! The tags are those of Python's `hmac` with the SM3 of OpenSSL 3.0, and of `cryptography`; what the PRF yields
 //! is that of OpenSSL's key derivation `TLS1-PRF` with the digest SM3, the label before the seed.
+#![tactic(auto)]
+
 #[cfg(test)]
 mod tests {
     use hmac_sm3::{Hmac, hmac_of, prf};

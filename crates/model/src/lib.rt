@@ -1,4 +1,6 @@
 //! What every call of a line end does, defined on an abstract end, and the law of a whole line.
+#![tactic(auto)]
+
 mod laws;
 mod question;
 mod refusal;

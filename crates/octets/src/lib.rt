@@ -1,4 +1,6 @@
 //! What every layer shares: parts of buffers, numbers in octets, comparing, and the two roles.
+#![tactic(auto)]
+
 mod buffer;
 mod numbers;
 mod role;

@@ -3,6 +3,8 @@
 //! A protection turns the content of a record into the octets that stand on the wire, and back. It holds a suite,
 //! a role and key material, or is unkeyed. The trait says all that a protection owes; the laws in it are what
 //! the layers above rest on.
+#![tactic(auto)]
+
 mod bounds;
 mod error;
 mod pair;

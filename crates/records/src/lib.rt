@@ -1,4 +1,6 @@
 //! Records, alerts and faults of TLCP: read from octets and written to them.
+#![tactic(auto)]
+
 mod alert;
 mod fault;
 mod kind;

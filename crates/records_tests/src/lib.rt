@@ -1,4 +1,6 @@
 //! Records and alerts against tables of cases.
+#![tactic(auto)]
+
 #[cfg(test)]
 mod alert_tests;
 #[cfg(test)]

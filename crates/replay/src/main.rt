@@ -1,4 +1,6 @@
 //! Replays a script of calls to the two ends of a line, and prints one line for each answer.
+#![tactic(auto)]
+
 mod bench;
 mod calls;
 mod end;

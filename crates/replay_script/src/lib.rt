@@ -1,6 +1,8 @@
 //! Scripts of calls to the two ends of a line, read line by line.
 //!
 //! A line names an end, a call and what the call brings. `#` begins a comment.
+#![tactic(auto)]
+
 mod answer_parts;
 mod fault;
 mod names;

@@ -1,4 +1,6 @@
 //! Numbers, questions and octets as scripts write them.
+#![tactic(auto)]
+
 mod fault;
 mod number;
 mod octet_text;

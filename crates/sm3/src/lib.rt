@@ -1,4 +1,6 @@
 // SM3, the hash function of GB/T 32905-2016, taken in pieces of any length.
+#![tactic(auto)]
+
 mod chain;
 mod hash;
 mod laws;

@@ -1,5 +1,7 @@
 // The hash run on the two examples of GB/T 32905-2016, annex A, and beside another implementation: the other values were
 // made by OpenSSL 3.0.19 (through Python's hashlib), and libgcrypt gives the same.
+#![tactic(auto)]
+
 #[cfg(test)]
 mod tests {
     use sm3::{Sm3, digest_of};

@@ -1,4 +1,6 @@
 //! SM4, the block cipher of GB/T 32907-2016: 16-octet blocks under a 16-octet key.
+#![tactic(auto)]
+
 mod cipher;
 mod laws;
 mod round_keys;

@@ -1,4 +1,6 @@
 //! Vectors for SM4 and for its CBC mode, run.
+#![tactic(auto)]
+
 #[cfg(test)]
 mod block_tests;
 #[cfg(test)]

@@ -1,4 +1,6 @@
 //! A line between a tide gauge and a tariff office, layer by layer, on data from standard input.
+#![tactic(auto)]
+
 mod hello;
 mod input;
 mod keys;

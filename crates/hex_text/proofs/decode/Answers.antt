@@ -6,7 +6,7 @@ pub loop-i-preserved : goal.loop-i-preserved
 loop-i-preserved c =
     let h : 2 * c.loop-i.i + 1 < length c.args.text.now = omega arith in
     let e = c.in-Some.ensures in
-    decode_more c.args.text.now _ _ c.loop-i.i c.in-Some.x h (sym e) c.in-ok-push.ensures.items c.loop-i.invariant
+    decode_more c.args.text.now _ _ c.loop-i.i c.in-Some.x h (sym e) c.in_ok-push-in-Some.ensures.items c.loop-i.invariant
 
 pub returns : goal.returns
 returns c = decode_all c.args.text.now _ c.loop-i.i (omega arith) c.loop-i.invariant

@@ -8,7 +8,7 @@ pub loop-i-preserved : goal.loop-i-preserved
 loop-i-preserved c = (
   search rules,
   decrypt_more (keys_of c.args.cipher.now) c.loop-i.octets c.loop-i.before c.loop-i.i (length c.args.octets.now / 16) (omega arith)
-      (omega arith) c.block-at-block.ensures c.decrypt-block-plain.ensures c.put_block.ensures c.loop-i.invariant.1,
+      (omega arith) c.block_at-block.ensures c.decrypt_block-plain.ensures c.put_block.ensures c.loop-i.invariant.1,
 )
 
 pub returns : goal.returns

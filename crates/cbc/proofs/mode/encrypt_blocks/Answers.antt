@@ -8,7 +8,7 @@ pub loop-i-preserved : goal.loop-i-preserved
 loop-i-preserved c = (
   search rules,
   encrypt_more (keys_of c.args.cipher.now) c.loop-i.octets c.loop-i.before c.loop-i.i (length c.args.octets.now / 16) (omega arith)
-      (omega arith) c.block-at-block.ensures c.encrypt-block-next.ensures c.put_block.ensures c.loop-i.invariant.1,
+      (omega arith) c.block_at-block.ensures c.encrypt_block-next.ensures c.put_block.ensures c.loop-i.invariant.1,
 )
 
 pub returns : goal.returns

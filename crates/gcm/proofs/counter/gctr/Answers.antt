@@ -15,7 +15,7 @@ pub loop-i-preserved : goal.loop-i-preserved
 loop-i-preserved c =
     let h : c.loop-i.i < block_count c.args.octets.now = omega arith in
     gctr_more (keys_of c.args.cipher.now) c.loop-i.octets c.loop-i.i (block_count c.args.octets.now) c.loop-i.counter
-    h (omega arith) (c.encrypt-pad.ensures ∙ ap (crypt (keys_of c.args.cipher.now)) c.to-be-bytes.ensures) c.add.ensures refl
+    h (omega arith) (c.encrypt-pad.ensures ∙ ap (crypt (keys_of c.args.cipher.now)) c.to_be_bytes.ensures) c.add.ensures refl
     c.inc32-counter.ensures c.loop-i.invariant
 
 pub returns-then-whole-octets : goal.returns-then-whole-octets
@@ -24,7 +24,7 @@ returns-then-whole-octets c =
     let e : c.loop-i.i ≡ length c.args.octets.now / 16 = omega arith in
     gctr_last (keys_of c.args.cipher.now) c.loop-i.octets (length c.args.octets.now / 16) (block_count c.args.octets.now)
     c.loop-i.counter (omega arith) (omega arith)
-    (c.encrypt-pad-then-whole-octets.ensures ∙ ap (crypt (keys_of c.args.cipher.now)) c.to-be-bytes-then-whole-octets.ensures)
+    (c.encrypt-pad-then-whole-octets.ensures ∙ ap (crypt (keys_of c.args.cipher.now)) c.to_be_bytes-then-whole-octets.ensures)
     c.add-then-whole-octets.ensures refl (rw (← e) c.loop-i.invariant)
 
 pub returns-else-whole-octets : goal.returns-else-whole-octets

@@ -11,7 +11,7 @@ loop-i-init c =
 
 pub loop-i-preserved : goal.loop-i-preserved
 loop-i-preserved c =
-    hash_more c.args.key.now.h c.args.octets.now c.loop-i.i c.loop-i.sum (omega arith) c.block-at.ensures c.load.ensures
+    hash_more c.args.key.now.h c.args.octets.now c.loop-i.i c.loop-i.sum (omega arith) c.block_at.ensures c.load.ensures
     c.times-sum.ensures c.loop-i.invariant
 
 pub returns-then-octets-eq0 : goal.returns-then-octets-eq0
@@ -20,5 +20,5 @@ returns-then-octets-eq0 c =
 
 pub returns : goal.returns
 returns c =
-    hash_last c.args.key.now.h c.args.octets.now c.loop-i.i c.loop-i.sum (omega arith) (omega arith) c.last-block.ensures
+    hash_last c.args.key.now.h c.args.octets.now c.loop-i.i c.loop-i.sum (omega arith) (omega arith) c.last_block.ensures
     c.load-2.ensures c.times.ensures c.loop-i.invariant

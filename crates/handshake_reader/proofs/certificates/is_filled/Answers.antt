@@ -8,7 +8,7 @@ use Rattle.handshake_reader.proofs.certificates.is_filled.Goals as goal
 
 pub loop-left-preserved : goal.loop-left-preserved
 loop-left-preserved c =
-    let n = eqb-false _ _ (sym c.if-is-empty.ensures) in
+    let n = eqb-false _ _ (sym c.if-is_empty.ensures) in
     let h : 1 ≤ length c.in-Some.first.part.now = omega (arith, n) in
     filled_more c.loop-left.left.now c.in-Some.first.part.now c.in-Some.first.rest.now (sym c.in-Some.ensures) h ∙ c.loop-left.invariant
 

@@ -5,4 +5,4 @@ use Rattle.handshake_reader.proofs.exchanges.read_exchange.Goals as goal
 pub returns : goal.returns
 returns c =
     let h : 2 ≤ length c.args.body.now = search rules in
-    exchange_at c.args.body.now h c.if-length-lt-CARRIED-LEAST.false c.if-carried-length.false
+    exchange_at c.args.body.now h c.if-length-lt-CARRIED_LEAST.false c.if-carried-length.false

@@ -16,8 +16,8 @@ loop-i-preserved c =
     let k = c.args.secret.now in
     let l = c.args.label.now in
     let s = pieced (λ x. x.now) c.args.seed.now in
-    let e : c.next-link-next.result ≡ link (c.loop-i.i + 1) k (l ++ s) =
-    link_next k l s c.loop-i.i c.new-keyed.ensures c.loop-i.invariant.1 c.next-link-next.ensures in (
+    let e : c.next_link-next.result ≡ link (c.loop-i.i + 1) k (l ++ s) =
+    link_next k l s c.loop-i.i c.new-keyed.ensures c.loop-i.invariant.1 c.next_link-next.ensures in (
       length-link c.loop-i.i k (l ++ s) e,
       λ _. e,
       laid_more c.loop-i.i k l s c.args.out.now c.new-keyed.ensures e c.loop-i.invariant.2 c.put_block.ensures,

@@ -11,4 +11,4 @@ pub returns : goal.returns
 returns c =
     let e : c.min-n.result ≡ min (length c.args.list.now) (length c.args.out.now - c.args.from) = search rules in
     let h : c.args.from ≤ length c.args.out.now = omega arith in
-    record { end = omega arith; after = put_laid _ _ _ _ _ e h c.copy-from-slice.ensures.after }
+    record { end = omega arith; after = put_laid _ _ _ _ _ e h c.copy_from_slice.ensures.after }

@@ -6,5 +6,5 @@ returns g c =
     let table = advanced_table g.row.K c.args.ws.now c.extend.ensures c.extend-2.ensures c.extend-3.ensures c.extend-4.ensures in
     record {
       table = table;
-      registers = advanced_rounds g.row.K c.args.v table c.round-with-v1.ensures c.round-with-v2.ensures c.round-with-v3.ensures c.round-with.ensures;
+      registers = advanced_rounds g.row.K c.args.v table c.round_with-v1.ensures c.round_with-v2.ensures c.round_with-v3.ensures c.round_with.ensures;
     }

@@ -11,7 +11,7 @@ loop-i-preserved c =
     let i = c.loop-i.i in
     let p = map (word c.args.block.now) (range_with_len 0 i) in
     let h : c.loop-i.i < 68 = omega arith in
-    let a = word_more p c.word-at.result i (length-map-range_with_len (word c.args.block.now) 0 i) h in
+    let a = word_more p c.word_at.result i (length-map-range_with_len (word c.args.block.now) 0 i) h in
     let b = map-range_with_len_more (word c.args.block.now) 0 i i (omega arith) in
     (simp length-set c.loop-i.invariant.0, cc)
 

@@ -11,5 +11,5 @@ tau_is x {l} {a} {b} {c} {d} {r} e ea eb ec ed er = simp (er, ea, eb, ec, ed, e)
 
 pub returns : goal.returns
 returns c =
-    tau_is c.args.x c.to-be-bytes.ensures c.substitute.ensures c.substitute-2.ensures c.substitute-3.ensures c.substitute-4.ensures
-    c.from-be-bytes.ensures
+    tau_is c.args.x c.to_be_bytes.ensures c.substitute.ensures c.substitute-2.ensures c.substitute-3.ensures c.substitute-4.ensures
+    c.from_be_bytes.ensures

@@ -3,15 +3,15 @@ use Rattle.cbc_protection.specs.View.{keying_of}
 use Rattle.cbc_protection.specs.Opened.{opened_none, opened_some, opened_size}
 use Rattle.cbc_protection.proofs.keys.CbcKeys.open.Goals as goal
 
-pub slice-bounds-wipe-count : goal.slice-bounds-wipe-count
-slice-bounds-wipe-count c =
+pub slice_bounds-wipe-count : goal.slice_bounds-wipe-count
+slice_bounds-wipe-count c =
     let k = c.args.self.now in
     let l = c.args.octets.now in
     opened_size (keying_of k) c.args.number c.args.kind l c.args.place.now (length l - 16) (omega arith) (omega arith) (omega arith) refl
     c.wipe.ensures k.reads c.sixteen-iv.ensures c.lay.ensures.after c.decrypt.ensures.after c.in-Some.size c.in-Some.ensures
 
-pub slice-bounds-wipe-start : goal.slice-bounds-wipe-start
-slice-bounds-wipe-start c =
+pub slice_bounds-wipe-start : goal.slice_bounds-wipe-start
+slice_bounds-wipe-start c =
     let k = c.args.self.now in
     let l = c.args.octets.now in
     opened_size (keying_of k) c.args.number c.args.kind l c.args.place.now (length l - 16) (omega arith) (omega arith) (omega arith) refl

@@ -5,11 +5,11 @@ use Rattle.cbc_protection.specs.Records.{text_of}
 use Rattle.cbc_protection.specs.Sealed.{length_text, sealed_laid}
 use Rattle.cbc_protection.proofs.keys.CbcKeys.seal.Goals as goal
 
-pub slice-bounds-encrypt-end : goal.slice-bounds-encrypt-end
-slice-bounds-encrypt-end c =
+pub slice_bounds-encrypt-end : goal.slice_bounds-encrypt-end
+slice_bounds-encrypt-end c =
     let k = c.args.self.now in
     let l = length_text k.role k.material c.args.number c.args.kind c.args.content.now in
-    omega (arith, c.lay-text-end.ensures.end)
+    omega (arith, c.lay_text-end.ensures.end)
 
 pub returns : goal.returns
 returns c =
@@ -19,5 +19,5 @@ returns c =
     let l = length_text k.role k.material c.args.number c.args.kind x in
     let w : length T % 16 ≡ 0 = omega arith in
     let h : 16 + length T ≤ length c.args.out.now = omega arith in
-    let z = sealed_laid (round_keys (key_of k.role k.material)) c.args.fresh.now T c.args.out.now c.requires.fresh w h k.writes c.sixteen-iv.ensures c.lay-at.ensures.after c.lay-at.ensures.end c.lay-text-end.ensures.after c.lay-text-end.ensures.end c.encrypt.ensures.after in
+    let z = sealed_laid (round_keys (key_of k.role k.material)) c.args.fresh.now T c.args.out.now c.requires.fresh w h k.writes c.sixteen-iv.ensures c.lay-at.ensures.after c.lay-at.ensures.end c.lay_text-end.ensures.after c.lay_text-end.ensures.end c.encrypt.ensures.after in
     record { end = z.0; after = z.1 }

@@ -4,7 +4,7 @@ use Rattle.gcm.specs.Field.{turns}
 use Rattle.gcm.specs.Tables.{multiples}
 use Rattle.gcm.proofs.hash_key.HashKey.new.Goals as goal
 
-pub invariant-of-result : goal.invariant-of-result
+pub invariant_of-result : goal.invariant_of-result
 unfolding multiples
-invariant-of-result c =
-    (fill_by_all (λ octet. turns 8 octet 0 c.args.h) c.loop-i.table 256 0 c.loop-i.invariant.0 (λ k l. c.loop-i.invariant.1 k (omega arith)), tt)
+invariant_of-result c =
+    record { filled = fill_by_all (λ octet. turns 8 octet 0 c.args.h) c.loop-i.table 256 0 c.loop-i.invariant.0 (λ k l. c.loop-i.invariant.1 k (omega arith)) }

@@ -3,4 +3,4 @@ use Rattle.gcm.specs.Field.{turns}
 use Rattle.gcm.proofs.hash_key.HashKey.times.Given as goal
 
 abbrev pub invariant-loop-i : goal.invariant-loop-i
-invariant-loop-i l = (l.left ≡ l.x / 2 ^ (8 * l.-i)) × (l.z ≡ turns (8 * l.-i) l.x 0 l.self.h)
+invariant-loop-i l = (l.left ≡ l.x / 2 ^ (8 * l._i)) × (l.z ≡ turns (8 * l._i) l.x 0 l.self.h)

@@ -4,4 +4,4 @@ use Rattle.gcm.proofs.key.Gcm.encipher.Goals as goal
 
 pub returns : goal.returns
 returns c =
-    enciphered_is (keys_of c.args.self.now.cipher) c.args.nonce.now c.args.octets.now c.text-block.ensures c.gctr.ensures
+    enciphered_is (keys_of c.args.self.now.cipher) c.args.nonce.now c.args.octets.now c.text_block.ensures c.gctr.ensures

@@ -5,4 +5,4 @@ use Rattle.gcm.proofs.key.Gcm.tag.Goals as goal
 pub returns : goal.returns
 returns c =
     tag_is (keys_of c.args.self.now.cipher) c.args.nonce.now c.args.aad.now c.args.octets.now c.args.self.now.keyed
-    c.digest.ensures c.to-be-bytes-block.ensures c.first-block.ensures c.gctr.ensures
+    c.digest.ensures c.to_be_bytes-block.ensures c.first_block.ensures c.gctr.ensures

@@ -12,8 +12,8 @@ returns c =
     let iv = nonce_of k.role k.material e in
     let a = additional c.args.number c.args.kind (length x) in
     let key = key_of k.role k.material in
-    let ivs = c.nonce-nonce.ensures ∙ ap (nonce_of k.role k.material) c.eight-octets-explicit.ensures in
+    let ivs = c.nonce-nonce.ensures ∙ ap (nonce_of k.role k.material) c.eight_octets-explicit.ensures in
     record {
-      end = seals_end key iv a x c.args.out.now e (omega arith) k.writes c.eight-octets-explicit.ensures ivs c.additional-data.ensures c.lay-at.ensures.after c.lay-at.ensures.end c.lay-end.ensures.after c.lay-end.ensures.end c.encrypt-tag.ensures.ciphertext c.encrypt-tag.ensures.tag refl c.lay.ensures.after c.lay.ensures.end;
-      after = seals_after key iv a x c.args.out.now e (omega arith) k.writes c.eight-octets-explicit.ensures ivs c.additional-data.ensures c.lay-at.ensures.after c.lay-at.ensures.end c.lay-end.ensures.after c.lay-end.ensures.end c.encrypt-tag.ensures.ciphertext c.encrypt-tag.ensures.tag refl c.lay.ensures.after;
+      end = seals_end key iv a x c.args.out.now e (omega arith) k.writes c.eight_octets-explicit.ensures ivs c.additional-data.ensures c.lay-at.ensures.after c.lay-at.ensures.end c.lay-end.ensures.after c.lay-end.ensures.end c.encrypt-tag.ensures.ciphertext c.encrypt-tag.ensures.tag refl c.lay.ensures.after c.lay.ensures.end;
+      after = seals_after key iv a x c.args.out.now e (omega arith) k.writes c.eight_octets-explicit.ensures ivs c.additional-data.ensures c.lay-at.ensures.after c.lay-at.ensures.end c.lay-end.ensures.after c.lay-end.ensures.end c.encrypt-tag.ensures.ciphertext c.encrypt-tag.ensures.tag refl c.lay.ensures.after;
     }

@@ -12,16 +12,16 @@ returns-then-length-lt1 c =
     let w = chain_size (seen_chain c.args.self.now) in
     elim c.then-length-lt1.branch [
       | goal.then-length-lt1-via-then-length-lt1 v ↦ sized_empty (λ x. x.now) xs i d n c.loop-certificate.invariant.0 c.loop-certificate-test.true v.if-length-lt1.true ∙ w
-      | goal.then-length-lt1-via-else-length-lt1+then-length-gt-BODY-LIMIT v ↦
-          (let k = v.if-length-gt-BODY-LIMIT.true in sized_over (λ x. x.now) xs i d n c.loop-certificate.invariant.0 c.loop-certificate-test.true (omega arith) ∙ w)
-      | goal.then-length-lt1-via-else-length-lt1+else-length-gt-BODY-LIMIT+then-size-length-gt-BODY-LIMIT v ↦
-          sized_over (λ x. x.now) xs i d n c.loop-certificate.invariant.0 c.loop-certificate-test.true v.if-size-length-gt-BODY-LIMIT.true ∙ w
+      | goal.then-length-lt1-via-else-length-lt1+then-length-gt-BODY_LIMIT v ↦
+          (let k = v.if-length-gt-BODY_LIMIT.true in sized_over (λ x. x.now) xs i d n c.loop-certificate.invariant.0 c.loop-certificate-test.true (omega arith) ∙ w)
+      | goal.then-length-lt1-via-else-length-lt1+else-length-gt-BODY_LIMIT+then-size-length-gt-BODY_LIMIT v ↦
+          sized_over (λ x. x.now) xs i d n c.loop-certificate.invariant.0 c.loop-certificate-test.true v.if-size-length-gt-BODY_LIMIT.true ∙ w
     ]
 
 pub loop-certificate-preserved : goal.loop-certificate-preserved
 loop-certificate-preserved c = (
-  sized_more now c.args.self.now.certificates.now c.loop-certificate.certificate-index (record { ref_ptr = (0, 0); now = [] }) c.loop-certificate.size
-      c.loop-certificate.invariant.0 c.loop-certificate-test.true c.if-length-lt1.false c.if-size-length-gt-BODY-LIMIT.false,
+  sized_more (λ x. x.now) c.args.self.now.certificates.now c.loop-certificate.certificate-index (record { ref_ptr = (0, 0); now = [] }) c.loop-certificate.size
+      c.loop-certificate.invariant.0 c.loop-certificate-test.true c.if-length-lt1.false c.if-size-length-gt-BODY_LIMIT.false,
   omega arith,
 )
 

@@ -7,14 +7,14 @@ use Rattle.handshake_writer.proofs.Layings.{laying, then, body_laid}
 use Rattle.handshake_writer.proofs.Written.{chain_sized}
 use Rattle.handshake_writer.proofs.chain.CertificateChainWriteMessage.write_body.Goals as goal
 
-pub overflow-sub-size : goal.overflow-sub-size
-overflow-sub-size c = let s = chain_sized (seen_chain c.args.self.now) c.in-Some.size c.in-Some.ensures in omega (arith, s.0)
+pub overflow_sub-size : goal.overflow_sub-size
+overflow_sub-size c = let s = chain_sized (seen_chain c.args.self.now) c.in-Some.size c.in-Some.ensures in omega (arith, s.0)
 
-pub overflow-cast-size : goal.overflow-cast-size
-overflow-cast-size c = let s = chain_sized (seen_chain c.args.self.now) c.in-Some.size c.in-Some.ensures in omega (arith, s.0, s.1)
+pub overflow_cast-size : goal.overflow_cast-size
+overflow_cast-size c = let s = chain_sized (seen_chain c.args.self.now) c.in-Some.size c.in-Some.ensures in omega (arith, s.0, s.1)
 
-pub lay-certificates-requires : goal.lay-certificates-requires
-lay-certificates-requires c = (chain_sized (seen_chain c.args.self.now) c.in-Some.size c.in-Some.ensures).1
+pub lay_certificates-requires : goal.lay_certificates-requires
+lay_certificates-requires c = (chain_sized (seen_chain c.args.self.now) c.in-Some.size c.in-Some.ensures).1
 
 pub returns : goal.returns
 unfolding certificate_body
@@ -23,5 +23,5 @@ returns c =
     let s = chain_sized cs c.in-Some.size c.in-Some.ensures in
     let m : (c.in-Some.size - 3) % 16777216 ≡ length (from_certificates cs) = omega (arith, s.0, s.1) in
     body_laid (certificate_parts cs) c.in-Some.ensures refl
-    (then (laying (c.three-octets.ensures ∙ ap three m) c.lay-at.ensures.end c.lay-at.ensures.after)
-    (laying refl c.lay-certificates.ensures.end c.lay-certificates.ensures.after))
+    (then (laying (c.three_octets.ensures ∙ ap three m) c.lay-at.ensures.end c.lay-at.ensures.after)
+    (laying refl c.lay_certificates.ensures.end c.lay_certificates.ensures.after))

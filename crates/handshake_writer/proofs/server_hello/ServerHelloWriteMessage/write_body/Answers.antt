@@ -6,7 +6,7 @@ use Rattle.handshake_writer.proofs.server_hello.ServerHelloWriteMessage.write_bo
 
 pub returns : goal.returns
 returns c =
-    body_laid (server_hello_parts (seen_server_hello c.args.self.now)) c.size.ensures (c.is-none.ensures ∙ ap not c.if-is-none.false)
+    body_laid (server_hello_parts (seen_server_hello c.args.self.now)) c.size.ensures (c.is_none.ensures ∙ ap not c.if-is_none.false)
     (then (laying refl c.lay-at.ensures.end c.lay-at.ensures.after)
     (then (laying refl c.lay-at-2.ensures.end c.lay-at-2.ensures.after)
     (then (laying refl c.lay-at-3.ensures.end c.lay-at-3.ensures.after)

@@ -4,5 +4,5 @@ use Rattle.sm3.proofs.hash.Sm3.hold.Goals as goal
 
 pub returns : goal.returns
 returns c =
-    hold_is c.args.self.now.chain.words c.args.self.now.block c.args.octets.now c.copy-from-slice.new.self
-    c.args.self.now.count c.held-at.result (omega arith) (omega arith) c.held-at.ensures c.requires c.copy-from-slice.ensures.after
+    hold_is c.args.self.now.chain.words c.args.self.now.block c.args.octets.now c.copy_from_slice.new.self
+    c.args.self.now.count c.held-at.result (omega arith) (omega arith) c.held-at.ensures c.requires c.copy_from_slice.ensures.after

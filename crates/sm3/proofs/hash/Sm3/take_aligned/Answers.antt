@@ -5,10 +5,10 @@ use Rattle.sm3.proofs.hash.Sm3.take_aligned.Goals as goal
 
 pub hold-requires : goal.hold-requires
 hold-requires c =
-    rest_fits c.args.self.now.count c.take-blocks.new.self.count _ c.args.octets.now c.requires refl
-    (held_after (view c.args.self.now) (view c.take-blocks.new.self) _ c.take-blocks.ensures)
+    rest_fits c.args.self.now.count c.take_blocks.new.self.count _ c.args.octets.now c.requires refl
+    (held_after (view c.args.self.now) (view c.take_blocks.new.self) _ c.take_blocks.ensures)
 
 pub returns : goal.returns
 returns c =
-    parts_are (view c.args.self.now) (view c.take-blocks.new.self) (view c.hold.new.self) _ _ c.args.octets.now
-    c.take-blocks.ensures c.hold.ensures (cut_is _ c.args.octets.now)
+    parts_are (view c.args.self.now) (view c.take_blocks.new.self) (view c.hold.new.self) _ _ c.args.octets.now
+    c.take_blocks.ensures c.hold.ensures (cut_is _ c.args.octets.now)

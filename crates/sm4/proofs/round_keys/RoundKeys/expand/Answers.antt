@@ -11,7 +11,7 @@ loop-i-preserved c =
     let h : c.loop-i.i < 32 = omega arith in
     let ho : c.loop-i.i < length c.loop-i.words = omega arith in (
       length-set c.loop-i.words c.loop-i.i _ ∙ c.loop-i.invariant.0,
-      schedule_more cks c.loop-i.words c.loop-i.i (quad_of c.loop-i.state) h ho c.key-round-state.ensures refl c.loop-i.invariant.1,
+      schedule_more cks c.loop-i.words c.loop-i.i (quad_of c.loop-i.state) h ho c.key_round-state.ensures refl c.loop-i.invariant.1,
     )
 
 pub returns : goal.returns
