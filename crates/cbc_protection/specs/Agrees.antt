@@ -1,16 +1,15 @@
 -- What is sealed opens, and what opens was checked.
-use Rattle.std.specs.Prelude.{◌≡◌, ℕ, ◌+◌, ◌-◌, ◌%◌, ◌<◌, ◌≤◌, Bool, true, false, cond, List, [], ◌∷◌, ◌++◌, length, take, drop, replicate, Some, None, Ok, Err, Option, Result, slice_index, refl}
+use Rattle.std.specs.Prelude.{◌≡◌, ℕ, ◌+◌, ◌-◌, ◌%◌, ◌<◌, ◌≤◌, true, List, ◌++◌, length, take, drop, Some, None, Ok, Err, Option, slice_index, refl}
 use Rattle.std.proofs.Common.{sym, ap, ap₂, ◌∙◌, inl, inr, arith}
 use Rattle.std.specs.Option.{ok_or}
 use Rattle.std.proofs.lemmas.List.{length-append, length-drop, length-take-le, take_at, drop_at, get_or-drop, get_or-replicate}
-use Rattle.std.proofs.lemmas.Bool.{cond-true, leb-true, eqb-true, and_parts, cases_Bool}
+use Rattle.std.proofs.lemmas.Bool.{cond-true, leb-true, and_parts, cases_Bool}
 use Rattle.octets.specs.Octets.{Octets}
 use Rattle.octets.specs.declared.role.Role.{Role}
 use Rattle.octets.specs.declared.role.Role.TheVariants.{Client, Server}
 use Rattle.octets.specs.Roles.{peer}
 use Rattle.octets.proofs.Alike.{same_true}
 use Rattle.octets.proofs.Members.{octets-++, octets_replicate}
-use Rattle.protection.specs.declared.error.OpenError.{OpenError}
 use Rattle.protection.specs.declared.error.OpenError.TheVariants.{Refused}
 use Rattle.protection.specs.Keys.{Keying, across}
 use Rattle.sm4.specs.Cipher.{round_keys}
@@ -19,7 +18,7 @@ use Rattle.cbc.specs.Cbc.{cbc_encrypt, cbc_decrypt}
 use Rattle.cbc.proofs.Keeps.{length-cbc_encrypt, length-cbc_decrypt}
 use Rattle.cbc.proofs.Undo.{cbc_decryption_undoes}
 use Rattle.cbc_protection.specs.Layout.{key_of, mac}
-use Rattle.cbc_protection.specs.Padding.{pad, least_pad, padded, told_pad, well_padded, content_size, content_of, mac_of}
+use Rattle.cbc_protection.specs.Padding.{pad, least_pad, padded, told_pad, well_padded, content_size, content_of}
 use Rattle.cbc_protection.specs.Records.{text_of, authentic, checked, whole, decrypted, cbc_sealing, cbc_opening}
 use Rattle.cbc_protection.specs.Laws.{text, ChecksPadding, ChecksMac}
 use Rattle.cbc_protection.specs.Sealed.{length_text}

@@ -1,20 +1,19 @@
 -- The check of a decrypted text: padding, then MAC.
-use Rattle.std.specs.Prelude.{◌≡◌, ℕ, ◌+◌, ◌-◌, ◌%◌, ◌<◌, ◌≤◌, Bool, true, false, cond, ◌&&◌, ◌⊎◌, List, [], ◌∷◌, ◌++◌, length, take, drop, replicate, Some, None, Option, slice_index}
+use Rattle.std.specs.Prelude.{◌≡◌, ℕ, ◌+◌, ◌-◌, ◌<◌, ◌≤◌, Bool, true, false, ◌&&◌, List, ◌++◌, length, take, drop, replicate, Some, None, Option, slice_index}
 use Rattle.std.proofs.Math.Path.{refl, sym, ap, ap₂}
 use Rattle.std.proofs.Common.{◌∙◌}
 use Rattle.std.proofs.Math.Logic.{inl, inr}
 use native.Mathlib.Omega.{arith}
 use Rattle.std.specs.Option.{option_map}
 use Rattle.std.proofs.lemmas.List.{length-append, length-take-le, take_at, drop_at, take_rest, append_assoc, get_or-append-add, get_or-replicate}
-use Rattle.std.proofs.lemmas.Bool.{cond-true, cond-false, le-leb, lt-leb, leb-true, and_from, and_parts, cases_Bool}
+use Rattle.std.proofs.lemmas.Bool.{cond-true, cond-false, le-leb, lt-leb, and_from, and_parts, cases_Bool}
 use Rattle.octets.specs.Octets.{same}
 use Rattle.octets.specs.declared.role.Role.{Role}
-use Rattle.octets.proofs.Alike.{same_true, same_self}
+use Rattle.octets.proofs.Alike.{same_self}
 use Rattle.cbc_protection.specs.Layout.{mac}
 use Rattle.cbc_protection.specs.Padding.{pad, least_pad, padded, told_pad, well_padded, content_size, content_of, mac_of}
 use Rattle.cbc_protection.specs.Records.{authentic, checked}
 use Rattle.cbc_protection.specs.Pads.{length_pad, length_mac, pad_cut}
-use Rattle.cbc_protection.specs.Sealed.{length_padded}
 
 module _ (s : Role) (m : List ℕ) (n t : ℕ) (x : List ℕ) where
   -- no room for padding and MAC

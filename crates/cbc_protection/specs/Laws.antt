@@ -1,5 +1,5 @@
 -- What is proved of CBC protection beyond the laws of the interface.
-use Rattle.std.specs.Prelude.{◌≡◌, ℕ, ◌+◌, ◌-◌, ◌*◌, ◌/◌, ◌<◌, ◌≤◌, List, [], length, replicate, Ok, slice_index}
+use Rattle.std.specs.Prelude.{◌≡◌, ℕ, ◌+◌, ◌-◌, ◌*◌, ◌/◌, ◌<◌, List, length, Ok, slice_index}
 use Rattle.octets.specs.Roles.{peer}
 use Rattle.protection.specs.Keys.{Keying}
 use Rattle.cbc_protection.specs.Layout.{mac}

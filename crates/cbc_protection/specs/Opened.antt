@@ -1,17 +1,16 @@
 -- Opening, in the steps of the code.
-use Rattle.std.specs.Prelude.{◌≡◌, ℕ, ◌+◌, ◌-◌, ◌%◌, ◌<◌, ◌≤◌, Bool, true, false, cond, ◌&&◌, List, [], ◌∷◌, ◌++◌, length, get_or, take, drop, replicate, Some, None, Ok, Err, Option, Result, refl}
+use Rattle.std.specs.Prelude.{◌≡◌, ℕ, ◌+◌, ◌-◌, ◌%◌, ◌≤◌, true, cond, List, ◌++◌, length, take, drop, replicate, Some, None, Ok, Err, refl}
 use Rattle.std.proofs.Common.{sym, ap₂, ◌∙◌, rules}
 use Rattle.std.proofs.Math.Path.{ap}
 use native.Mathlib.Omega.{arith}
 use borrow.Rule.Slice.PartMut.{put_mid}
 use Rattle.std.specs.Option.{option_map, ok_or}
-use Rattle.std.proofs.lemmas.List.{length-append, length-drop, length-take-le, length-replicate, take_rest, same_lists, places}
+use Rattle.std.proofs.lemmas.List.{length-drop, length-take-le, length-replicate, take_rest, same_lists, places}
 use Rattle.std.proofs.lemmas.Bool.{cond-true, eq-eqb, le-leb, and_from}
 use Rattle.octets.specs.declared.role.Role.{Role}
 use Rattle.octets.specs.Laid.{laid}
 use Rattle.octets.specs.Roles.{peer}
 use Rattle.octets.proofs.Lays.{length-laid, read_laid, over_laid}
-use Rattle.protection.specs.declared.error.OpenError.{OpenError}
 use Rattle.protection.specs.declared.error.OpenError.TheVariants.{Refused}
 use Rattle.protection.specs.Keys.{Keying}
 use Rattle.protection.specs.Calls.{opened_length, placed}
@@ -19,7 +18,7 @@ use Rattle.sm4.specs.Cipher.{round_keys}
 use Rattle.cbc.specs.Cbc.{cbc_decrypt, whole_blocks}
 use Rattle.cbc.proofs.Keeps.{length-cbc_decrypt}
 use Rattle.cbc_protection.specs.Layout.{key_of}
-use Rattle.cbc_protection.specs.Padding.{content_of, content_size}
+use Rattle.cbc_protection.specs.Padding.{content_size}
 use Rattle.cbc_protection.specs.Records.{checked, whole, decrypted, cbc_opening}
 use Rattle.cbc_protection.specs.Checked.{checked_says, checked_some, checked_none}
 

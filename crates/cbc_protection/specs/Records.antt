@@ -1,5 +1,5 @@
 -- CBC protection: which suites it serves, and what sealing and opening are.
-use Rattle.std.specs.Prelude.{ℕ, ◌%◌, Bool, cond, ◌&&◌, ◌||◌, List, ◌++◌, length, take, drop, Some, None, Ok, Err, Option, Result, ◌==◌, nat_le}
+use Rattle.std.specs.Prelude.{ℕ, ◌%◌, Bool, cond, ◌&&◌, ◌||◌, List, ◌++◌, length, take, drop, Some, None, Err, Option, Result, ◌==◌, nat_le}
 use Rattle.std.specs.Option.{ok_or}
 use Rattle.octets.specs.Octets.{same}
 use Rattle.octets.specs.declared.role.Role.{Role}

@@ -1,5 +1,5 @@
 -- Sealing, in the steps of the code.
-use Rattle.std.specs.Prelude.{◌≡◌, ℕ, ◌+◌, ◌-◌, ◌*◌, ◌/◌, ◌%◌, ◌<◌, ◌≤◌, min, true, cond, List, [], ◌∷◌, ◌++◌, length, take, drop, refl}
+use Rattle.std.specs.Prelude.{◌≡◌, ℕ, ◌+◌, ◌-◌, ◌%◌, ◌≤◌, min, cond, List, ◌++◌, length, take, drop}
 use Rattle.std.proofs.Common.{sym, ap, ap₂, ◌∙◌, arith}
 use borrow.Rule.Slice.PartMut.{put_mid}
 use Rattle.std.proofs.lemmas.List.{length-append}
@@ -7,7 +7,6 @@ use Rattle.std.proofs.lemmas.Bool.{cond-true, eq-eqb}
 use Rattle.octets.specs.declared.role.Role.{Role}
 use Rattle.octets.specs.Laid.{laid}
 use Rattle.octets.proofs.Lays.{laid-laid, length-laid, read_laid, over_laid}
-use Rattle.protection.specs.Keys.{Keying}
 use Rattle.sm4.specs.Cipher.{round_keys}
 use Rattle.cbc.specs.Cbc.{cbc_encrypt, whole_blocks}
 use Rattle.cbc.proofs.Keeps.{length-cbc_encrypt}

@@ -1,11 +1,11 @@
 -- Counter mode: the loops of src/counter.rt, as equations between lists.
-use Rattle.std.proofs.Common.{◌≡◌, ℕ, zero, suc, ◌+◌, ◌-◌, ◌*◌, ◌/◌, ◌%◌, ◌^◌, ◌<◌, ◌≤◌, List, [], ◌∷◌, ◌++◌, length, get_or, take, drop, set, sym, refl, ap, ◌∙◌, ap₂, append_assoc, arith}
+use Rattle.std.proofs.Common.{◌≡◌, ℕ, suc, ◌+◌, ◌-◌, ◌*◌, ◌<◌, ◌≤◌, List, [], ◌∷◌, ◌++◌, length, get_or, take, drop, set, sym, refl, ap, ◌∙◌, ap₂, append_assoc, arith}
 use borrow.Rule.Slice.PartMut.{put_mid}
 use lib.Bits.{bit_xor}
 use Rattle.std.proofs.lemmas.List.{at_drop_more, at_drop_all, take_more_set, drop-set-lt, length-append, length-drop, length-take-le, take_at, drop_at, drop-drop, take_all, append-nil, drop_all, take_rest}
 use Rattle.sm4.specs.Cipher.{crypt}
-use Rattle.gcm.specs.Blocks.{octets16, block_count}
-use Rattle.gcm.specs.Counter.{inc32, xored, gctr_from, gctr}
+use Rattle.gcm.specs.Blocks.{octets16}
+use Rattle.gcm.specs.Counter.{inc32, xored, gctr_from}
 
 -- ---- a pad added octet by octet
 

@@ -1,7 +1,7 @@
 -- Texts by blocks, and GHASH over them.
-use Rattle.std.proofs.Common.{◌≡◌, ℕ, zero, suc, ◌+◌, ◌-◌, ◌*◌, ◌/◌, ◌%◌, ◌^◌, ◌<◌, ◌≤◌, List, [], ◌∷◌, ◌++◌, length, take, drop, replicate, sym, refl, ap, ◌∙◌, ap₂, append_assoc, suc-add, zero-add, arith}
+use Rattle.std.proofs.Common.{◌≡◌, ℕ, zero, suc, ◌+◌, ◌-◌, ◌*◌, ◌/◌, ◌%◌, ◌<◌, ◌≤◌, List, [], ◌∷◌, ◌++◌, length, take, drop, replicate, sym, refl, ap, ◌∙◌, ap₂, suc-add, zero-add, arith}
 use lib.Bits.{bit_xor}
-use Rattle.std.proofs.lemmas.List.{length-append, length-replicate, length-drop, length-take-le, drop-append-le, take-append-le, take_all, drop-drop, nil_from_length}
+use Rattle.std.proofs.lemmas.List.{length-append, length-replicate, length-drop, drop-append-le, take-append-le, take_all, drop-drop, nil_from_length}
 use Rattle.gcm.specs.Blocks.{value, block_count, filled, blocks}
 use Rattle.gcm.specs.Field.{product}
 use Rattle.gcm.specs.Ghash.{hashed, absorbed, ghash}

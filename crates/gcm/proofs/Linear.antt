@@ -1,5 +1,5 @@
 -- Shifts and turns of the product are linear, so that eight turns can be taken at once.
-use Rattle.std.proofs.Common.{◌≡◌, ℕ, zero, suc, ◌+◌, ◌*◌, ◌/◌, ◌%◌, ◌^◌, ◌<◌, ◌≤◌, Bool, true, false, cond, eqb, sym, refl, ap, ◌∙◌, ap₂, mul_assoc, add_comm, suc-add, pow-suc, arith}
+use Rattle.std.proofs.Common.{◌≡◌, ℕ, zero, suc, ◌+◌, ◌*◌, ◌/◌, ◌%◌, ◌^◌, ◌<◌, Bool, true, false, cond, eqb, sym, refl, ap, ◌∙◌, ap₂, mul_assoc, add_comm, suc-add, pow-suc, arith}
 use lib.Bits.{bit_xor, xor_assoc, xor_comm, xor_self, xor_zero_r, xor_shr, xor_mod, xor_shifted}
 use Rattle.std.proofs.lemmas.Nat.{shr-shr, shr_split}
 use Rattle.gcm.specs.Field.{R, shifted, added, turns, product}

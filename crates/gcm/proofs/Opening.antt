@@ -1,13 +1,13 @@
 -- What is sealed opens, and nothing else does.
-use Rattle.std.proofs.Common.{◌≡◌, ℕ, ◌+◌, ◌-◌, ◌≤◌, Bool, true, false, cond, List, [], ◌∷◌, ◌++◌, length, take, drop, Some, None, Option, sym, refl, ap, ◌∙◌, subst, ap₂, inl, inr, arith}
-use Rattle.std.proofs.lemmas.List.{length-append, length-drop, take_at, drop_at, take-append-drop}
+use Rattle.std.proofs.Common.{◌≡◌, ℕ, ◌+◌, ◌-◌, cond, List, ◌++◌, length, take, drop, Some, None, sym, ap, ◌∙◌, subst, ap₂, inl, inr, arith}
+use Rattle.std.proofs.lemmas.List.{length-append, take_at, drop_at, take-append-drop}
 use Rattle.std.proofs.lemmas.Bool.{cases_Bool}
 use Rattle.octets.specs.Octets.{Octets, same}
 use Rattle.octets.proofs.Alike.{same_true, same_self}
-use Rattle.octets.proofs.Members.{octets-++, octets_take, from_members}
+use Rattle.octets.proofs.Members.{octets-++, octets_take}
 use Rattle.sm4.specs.Cipher.{round_keys}
 use Rattle.gcm.specs.Blocks.{octets16}
-use Rattle.gcm.specs.Counter.{inc32, gctr}
+use Rattle.gcm.specs.Counter.{inc32}
 use Rattle.gcm.specs.Gcm.{J0, enciphered, digest, tag, opened, seal_gcm, open_gcm}
 use Rattle.gcm.specs.Laws.{OpensSealed, DecryptsEncrypted, OnlySealedOpens, OpensExactly, Lengths, OctetsStay}
 use Rattle.gcm.proofs.Undoing.{length-gctr, gctr_octets, undoes_itself}

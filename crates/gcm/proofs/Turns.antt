@@ -1,11 +1,10 @@
 -- The loops of src/field.rt and src/hash_key.rt, as equations between numbers.
-use Rattle.std.proofs.Common.{◌≡◌, ℕ, zero, suc, ◌+◌, ◌-◌, ◌*◌, ◌/◌, ◌%◌, ◌^◌, ◌<◌, ◌≤◌, Bool, true, false, cond, T, eqb, List, map, length, get_or, sym, refl, ap, ◌∙◌, subst, ap₂, inl, inr, arith, eqb→eq}
+use Rattle.std.proofs.Common.{◌≡◌, ℕ, zero, suc, ◌+◌, ◌-◌, ◌*◌, ◌/◌, ◌%◌, ◌^◌, ◌<◌, Bool, true, false, cond, T, eqb, List, get_or, sym, ap, ◌∙◌, subst, ap₂, inl, inr, arith, eqb→eq}
 use lib.Bits.{bit_and, bit_xor, and_zero_r, and_mask, xor_zero_r}
-use Rattle.std.specs.List.{range_with_len}
 use Rattle.std.proofs.lemmas.List.FromFn.{get_or-map-range_with_len}
 use Rattle.std.proofs.lemmas.Nat.{shr-shr}
 use Rattle.std.proofs.lemmas.Bool.{cases_lt}
-use Rattle.gcm.specs.Field.{R, shifted, added, turns, product}
+use Rattle.gcm.specs.Field.{shifted, added, turns}
 use Rattle.gcm.specs.Tables.{shifts, multiples}
 use Rattle.gcm.proofs.Linear.{shifts_parts, turns_more, turns_octet}
 

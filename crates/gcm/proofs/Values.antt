@@ -1,11 +1,11 @@
 -- Numbers and their octets.
-use Rattle.std.proofs.Common.{◌≡◌, ℕ, zero, suc, ◌+◌, ◌-◌, ◌*◌, ◌/◌, ◌%◌, ◌^◌, ◌<◌, ◌≤◌, List, [], ◌∷◌, ◌++◌, length, get_or, take, drop, replicate, sym, refl, ap, ◌∙◌, ap₂, add_assoc, mul_assoc, add-mul, pow-suc, arith}
+use Rattle.std.proofs.Common.{◌≡◌, ℕ, zero, suc, ◌+◌, ◌-◌, ◌*◌, ◌/◌, ◌%◌, ◌^◌, ◌<◌, List, [], ◌∷◌, ◌++◌, length, get_or, take, drop, replicate, sym, refl, ap, ◌∙◌, ap₂, add_assoc, mul_assoc, add-mul, pow-suc, arith}
 use native.Mathlib.Nat.{pow-succ'}
 use lib.Arith.{mod-mul}
 use lib.Bits.{bit_or}
 use Rattle.std.proofs.lemmas.Nat.{or_shifted}
 use Rattle.std.proofs.lemmas.List.{drop_more, drop_all, take_rest, drop-replicate}
-use Rattle.gcm.specs.Blocks.{value, value_from, octets_of, octets16}
+use Rattle.gcm.specs.Blocks.{value, value_from, octets_of}
 
 -- ---- the number of 16 octets
 

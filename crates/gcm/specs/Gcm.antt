@@ -1,6 +1,6 @@
 -- Authenticated encryption and decryption by SM4 in Galois/Counter Mode (NIST SP 800-38D, 7.1 and 7.2),
 -- with nonces (IV) of 12 octets and tags of 16. Beyond 2 ^ 32 - 2 blocks, which the recommendation excludes, the counter wraps.
-use Rattle.std.specs.Prelude.{ℕ, ◌+◌, ◌-◌, ◌*◌, ◌^◌, Bool, cond, List, ◌++◌, length, take, drop, replicate, Some, None, Option}
+use Rattle.std.specs.Prelude.{ℕ, ◌+◌, ◌-◌, ◌*◌, ◌^◌, cond, List, ◌++◌, length, take, drop, replicate, Some, None, Option}
 use Rattle.octets.specs.Octets.{same}
 use Rattle.sm4.specs.Cipher.{round_keys, crypt}
 use Rattle.gcm.specs.Blocks.{value, octets_of, octets16, filled}

@@ -1,5 +1,5 @@
 -- What is proved of Galois/Counter Mode as a whole.
-use Rattle.std.specs.Prelude.{◌≡◌, ℕ, ◌+◌, ◌*◌, ◌/◌, ◌%◌, ◌^◌, ◌<◌, List, length, Some, bit_xor}
+use Rattle.std.specs.Prelude.{◌≡◌, ℕ, ◌+◌, ◌/◌, ◌%◌, ◌^◌, ◌<◌, List, length, Some, bit_xor}
 use Rattle.octets.specs.Octets.{Octets}
 use Rattle.gcm.specs.Counter.{inc32, inc32s, gctr}
 use Rattle.gcm.specs.Field.{product}

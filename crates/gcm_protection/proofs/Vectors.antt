@@ -1,5 +1,5 @@
 -- The records of another implementation, computed.
-use Rattle.std.proofs.Common.{◌≡◌, refl}
+use Rattle.std.proofs.Common.{refl}
 use Rattle.sm4.specs.Transform.{transform, transform_key, tau}
 use Rattle.sm4.specs.Cipher.{cks, crypt, round_keys}
 use Rattle.gcm.specs.Field.{turns, product}

@@ -1,5 +1,5 @@
 -- What is sealed opens, and what opens was sealed.
-use Rattle.std.specs.Prelude.{◌≡◌, ℕ, ◌+◌, ◌-◌, ◌<◌, ◌≤◌, Bool, true, false, cond, List, [], ◌∷◌, ◌++◌, length, take, drop, Some, None, Ok, Err, Option, Result, nat_le, refl}
+use Rattle.std.specs.Prelude.{◌≡◌, ℕ, ◌+◌, ◌-◌, ◌≤◌, List, ◌++◌, length, take, drop, Some, None, Ok, Err, Option, nat_le, refl}
 use Rattle.std.proofs.Common.{sym, ap, ap₂, ◌∙◌, arith}
 use Rattle.std.proofs.Math.Logic.{inl, inr}
 use Rattle.std.specs.Option.{ok_or}
@@ -12,11 +12,10 @@ use Rattle.octets.specs.Roles.{peer}
 use Rattle.sm4.specs.Cipher.{round_keys}
 use Rattle.gcm.specs.Gcm.{tag, seal_gcm, open_gcm}
 use Rattle.gcm.proofs.Opening.{length_seal, opens_exactly, opens_sealed, only_sealed_opens}
-use Rattle.protection.specs.declared.error.OpenError.{OpenError}
 use Rattle.protection.specs.declared.error.OpenError.TheVariants.{Refused}
 use Rattle.protection.specs.Keys.{Keying, across}
 use Rattle.gcm_protection.specs.Layout.{key_of, nonce_of, additional}
-use Rattle.gcm_protection.specs.Records.{overhead, gcm_sealing, gcm_opening}
+use Rattle.gcm_protection.specs.Records.{gcm_sealing, gcm_opening}
 use Rattle.gcm_protection.specs.Laws.{ChecksTag, OpensSealedAlone}
 use Rattle.gcm_protection.specs.Sealed.{sealed_length}
 use Rattle.gcm_protection.specs.Opened.{opening_by}

@@ -1,26 +1,23 @@
 -- Opening, in the steps of the code.
-use Rattle.std.specs.Prelude.{◌≡◌, ℕ, ◌+◌, ◌-◌, ◌<◌, ◌≤◌, min, Bool, true, false, cond, leb, List, [], ◌∷◌, ◌++◌, length, take, drop, replicate, is_some, Some, None, Ok, Err, Option, Result, refl}
-use Rattle.std.proofs.Common.{sym, ◌∙◌, inl, inr}
+use Rattle.std.specs.Prelude.{◌≡◌, ℕ, ◌+◌, ◌-◌, ◌≤◌, Bool, true, false, List, length, take, drop, replicate, is_some, Some, None, Ok, Err, Option, refl}
+use Rattle.std.proofs.Common.{sym, ◌∙◌}
 use Rattle.std.proofs.Math.Path.{ap, ap₂}
 use native.Mathlib.Omega.{arith}
 use borrow.Rule.Slice.PartMut.{put_mid}
 use Rattle.std.specs.Option.{unwrap_or, ok_or}
-use Rattle.std.proofs.lemmas.List.{length-append, length-drop, length-take-le, drop-drop, drop-replicate, length-replicate, take_rest}
-use Rattle.std.proofs.lemmas.Bool.{cond-true, le-leb, leb-true, cases_Bool}
+use Rattle.std.proofs.lemmas.List.{length-drop, length-take-le, drop-drop, length-replicate, take_rest}
+use Rattle.std.proofs.lemmas.Bool.{cond-true, le-leb}
 use Rattle.octets.specs.Laid.{laid}
-use Rattle.octets.specs.Numbers.{eight}
 use Rattle.octets.specs.Roles.{peer}
-use Rattle.octets.proofs.Lays.{length-laid}
 use Rattle.sm4.specs.Cipher.{round_keys}
-use Rattle.gcm.specs.Gcm.{enciphered, tag, opened, seal_gcm, open_gcm}
-use Rattle.gcm.proofs.Opening.{length-enciphered, length_seal, opens_exactly, opens_sealed, only_sealed_opens}
-use Rattle.protection.specs.declared.error.OpenError.{OpenError}
+use Rattle.gcm.specs.Gcm.{opened, open_gcm}
+use Rattle.gcm.proofs.Opening.{length-enciphered, opens_exactly}
 use Rattle.protection.specs.declared.error.OpenError.TheVariants.{Refused}
 use Rattle.protection.specs.Keys.{Keying}
 use Rattle.protection.specs.Calls.{opened_length, placed}
 use Rattle.protection.proofs.Places.{laid-placed}
 use Rattle.gcm_protection.specs.Layout.{key_of, nonce_of, additional}
-use Rattle.gcm_protection.specs.Records.{overhead, gcm_opening}
+use Rattle.gcm_protection.specs.Records.{gcm_opening}
 use Rattle.gcm_protection.specs.Parts.{part_laid, over_laid}
 
 -- ciphertext and tag of what stands behind the first 8 octets

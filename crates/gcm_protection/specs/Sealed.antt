@@ -1,6 +1,6 @@
 -- Sealing, in the steps of the code.
-use Rattle.std.specs.Prelude.{◌≡◌, ℕ, ◌+◌, ◌-◌, ◌≤◌, min, List, [], ◌∷◌, ◌++◌, length, take, drop, refl}
-use Rattle.std.proofs.Common.{sym, ◌∙◌, append_assoc, arith}
+use Rattle.std.specs.Prelude.{◌≡◌, ℕ, ◌+◌, ◌-◌, ◌≤◌, min, List, ◌++◌, length, take, drop}
+use Rattle.std.proofs.Common.{sym, ◌∙◌, arith}
 use Rattle.std.proofs.Math.Path.{ap, ap₂}
 use borrow.Rule.Slice.PartMut.{put_mid}
 use Rattle.std.proofs.lemmas.List.{length-append}
@@ -10,9 +10,7 @@ use Rattle.octets.proofs.Lays.{laid-laid, length-laid}
 use Rattle.sm4.specs.Cipher.{round_keys}
 use Rattle.gcm.specs.Gcm.{enciphered, tag, seal_gcm}
 use Rattle.gcm.proofs.Opening.{length-enciphered, length-tag, length_seal}
-use Rattle.protection.specs.Keys.{Keying}
 use Rattle.gcm_protection.specs.Layout.{key_of, nonce_of, additional}
-use Rattle.gcm_protection.specs.Records.{overhead, gcm_sealing}
 use Rattle.gcm_protection.specs.Laws.{SealedLength}
 use Rattle.gcm_protection.specs.Parts.{part_laid, over_laid}
 

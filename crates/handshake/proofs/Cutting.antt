@@ -1,8 +1,8 @@
 -- What is cut off a list: how long it is, and what is left.
-use Rattle.std.proofs.Common.{◌≡◌, ℕ, ◌+◌, ◌-◌, ◌*◌, ◌≤◌, Bool, true, false, cond, leb, List, [], ◌∷◌, ◌++◌, length, take, drop, sym, refl, ap, ◌∙◌, inl, inr, arith}
+use Rattle.std.proofs.Common.{◌≡◌, ℕ, ◌+◌, ◌-◌, ◌*◌, ◌≤◌, leb, List, [], ◌∷◌, length, take, drop, sym, ap, ◌∙◌, inl, inr, arith}
 use Rattle.std.proofs.lemmas.List.{length-take-le, length-drop}
 use Rattle.std.proofs.lemmas.Bool.{cases_Bool, leb-true}
-use Rattle.handshake.specs.Parts.{Cut, uncut, cut, part, part3}
+use Rattle.handshake.specs.Parts.{uncut, cut, part, part3}
 
 -- what is cut off is the front, as long as it should be, and what follows is the rest
 pub part_cut : (n : ℕ) (xs c rest : List ℕ) → part n xs ≡ cut c rest → (n ≤ length xs) × ((take n xs ≡ c) × (drop n xs ≡ rest))

@@ -1,7 +1,7 @@
 -- What the ends write keeps the layouts and the limits.
-use Rattle.std.proofs.Common.{◌≡◌, ℕ, ◌+◌, ◌*◌, ◌≤◌, true, ◌&&◌, leb, List, [], ◌∷◌, ◌++◌, length, refl, arith, length-append}
+use Rattle.std.proofs.Common.{◌≡◌, ℕ, ◌≤◌, true, ◌&&◌, leb, List, [], ◌∷◌, length, refl, arith, length-append}
 use Rattle.std.proofs.lemmas.Bool.{le-leb, eq-eqb, and_from}
-use Rattle.handshake.specs.Hellos.{ServerHello, client_offer, from_client_hello, from_server_hello}
+use Rattle.handshake.specs.Hellos.{ServerHello, client_offer}
 use Rattle.handshake.specs.Certificates.{from_certificates, certificate_body}
 use Rattle.handshake.specs.Exchanges.{exchange_body}
 use Rattle.handshake.specs.Kinds.{Parts, client_hello_parts, server_hello_parts, certificate_parts, server_key_exchange_parts, server_hello_done_parts, client_key_exchange_parts, finished_parts, body_of, is_sound}

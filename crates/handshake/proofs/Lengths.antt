@@ -1,5 +1,5 @@
 -- The lengths of bodies.
-use Rattle.std.proofs.Common.{◌≡◌, ℕ, ◌+◌, ◌*◌, ◌/◌, ◌%◌, ◌≤◌, List, [], ◌∷◌, ◌++◌, length, sym, refl, ap, ◌∙◌, arith, length-append}
+use Rattle.std.proofs.Common.{◌≡◌, ℕ, ◌+◌, ◌*◌, ◌/◌, List, [], ◌∷◌, ◌++◌, length, refl, arith, length-append}
 use Rattle.octets.specs.Numbers.{two}
 use Rattle.handshake.specs.Parts.{sized1, sized2, words, from_words}
 use Rattle.handshake.specs.Hellos.{ClientHello, ServerHello, from_client_hello, from_server_hello}

@@ -1,12 +1,12 @@
 -- What was written reads back to its parts, kind by kind.
-use Rattle.std.proofs.Common.{◌≡◌, ℕ, ◌+◌, ◌*◌, ◌/◌, ◌%◌, ◌<◌, ◌≤◌, Bool, true, false, cond, ◌&&◌, eqb, leb, List, [], ◌∷◌, ◌++◌, length, take, drop, Some, None, Option, sym, refl, ap, ◌∙◌, ap₂, append-nil, arith, length-append}
-use lib.Seq.{take-append_seam, drop-append_seam, take-length, drop-length}
+use Rattle.std.proofs.Common.{◌≡◌, ℕ, ◌+◌, ◌*◌, ◌/◌, ◌%◌, ◌<◌, ◌≤◌, true, false, ◌&&◌, eqb, leb, List, [], ◌∷◌, ◌++◌, length, take, drop, Some, sym, refl, ap, ◌∙◌, ap₂, append-nil, arith, length-append}
+use lib.Seq.{take-append_seam, drop-append_seam}
 use Rattle.std.proofs.lemmas.Bool.{leb-true, eqb-true, le-leb, lt-leb, eq-eqb, and_parts, and_from, cond-true}
-use Rattle.handshake.specs.Parts.{is_none, versioned, sized1, sized2, sized3, Cut, uncut, cut, part, part1, part2, part3, after_cut, words, from_words}
-use Rattle.handshake.specs.Frames.{message_limit, message, Next, not_ready, too_long, ready, next, next_of}
-use Rattle.handshake.specs.Hellos.{ClientHello, ServerHello, from_client_hello, client_hello_sound, client_hello_fits, client_offer, client_hello_body, read_client_hello, from_server_hello, server_hello_sound, server_answer, server_hello_body, server_choice, read_server_hello}
-use Rattle.handshake.specs.Certificates.{from_certificates, certificate_body, some_each, certificate_sound, put_first, certificates_in, read_certificate}
-use Rattle.handshake.specs.Exchanges.{exchange_body, exchange_sound, read_exchange, read_finished}
+use Rattle.handshake.specs.Parts.{versioned, sized1, sized2, sized3, cut, part, part1, part2, part3, words, from_words}
+use Rattle.handshake.specs.Frames.{message_limit, message, too_long, ready, next, next_of}
+use Rattle.handshake.specs.Hellos.{ClientHello, ServerHello, from_client_hello, client_hello_sound, client_hello_fits, client_offer, client_hello_body, read_client_hello, from_server_hello, server_hello_sound, server_answer, server_hello_body, read_server_hello}
+use Rattle.handshake.specs.Certificates.{from_certificates, certificate_body, some_each, certificates_in, read_certificate}
+use Rattle.handshake.specs.Exchanges.{exchange_body, read_exchange}
 use Rattle.handshake.proofs.Lengths.{from_words-length}
 
 -- ---- parts at the front

@@ -1,11 +1,10 @@
 -- The laws for every kind at once, of bodies and of whole messages.
-use Rattle.std.proofs.Common.{◌≡◌, ℕ, zero, suc, ◌+◌, ◌*◌, ◌/◌, ◌%◌, ◌<◌, ◌≤◌, min, Bool, true, false, cond, not, ◌&&◌, eqb, leb, List, [], ◌∷◌, ◌++◌, length, take, drop, Some, None, Ok, Err, Option, Result, sym, refl, ap, ◌∙◌, ap₂, inl, inr, append-nil, arith}
+use Rattle.std.proofs.Common.{◌≡◌, ℕ, zero, suc, ◌+◌, ◌*◌, ◌/◌, ◌%◌, ◌<◌, ◌≤◌, Bool, true, false, cond, ◌&&◌, eqb, leb, List, [], ◌∷◌, ◌++◌, length, take, drop, Some, None, Ok, Err, Option, Result, sym, refl, ap, ◌∙◌, ap₂, inl, inr, append-nil, arith}
 use Rattle.std.specs.Option.{option_map}
 use Rattle.std.proofs.lemmas.List.{length-take, length-take-le, take-append-drop}
 use Rattle.std.proofs.lemmas.Bool.{cases_Bool, leb-true, eqb-true, le-leb, lt-leb, eq-eqb, and_parts, and_right, cond-true, cond-false}
 use Rattle.records.specs.declared.fault.Fault.{Fault}
 use Rattle.octets.specs.Octets.{Octets}
-use Rattle.octets.specs.Numbers.{three}
 use Rattle.octets.proofs.Members.{octets_take}
 use Rattle.handshake.specs.declared.types.HandshakeType.{HandshakeType}
 use Rattle.handshake.specs.declared.types.HandshakeType as types
@@ -13,10 +12,10 @@ use Rattle.handshake.specs.Parts.{is_none, other_version}
 use Rattle.handshake.specs.Types.{type_number, is_hello}
 use Rattle.handshake.specs.Frames.{message_limit, message, Next, not_ready, too_long, ready, next, next_of}
 use Rattle.handshake.specs.Hellos as hellos
-use Rattle.handshake.specs.Exchanges.{exchange_sound, finished_sound}
+use Rattle.handshake.specs.Exchanges.{finished_sound}
 use Rattle.handshake.specs.Certificates.{some_each}
 use Rattle.handshake.specs.Kinds.{Parts, client_hello_parts, server_hello_parts, certificate_parts, server_key_exchange_parts, server_hello_done_parts, client_key_exchange_parts, finished_parts, type_of, body_of, is_sound, read_body, octets_of}
-use Rattle.handshake.specs.Faults.{layout_fault, or_fault, read_parts, read_next, read_message}
+use Rattle.handshake.specs.Faults.{layout_fault, or_fault, read_next, read_message}
 use Rattle.handshake.proofs.ReadBack.{next-message, in_three, client_back, server_back, read_back_certificate, read_back_exchange}
 use Rattle.handshake.proofs.WriteBack.{none_left, passed, low_three, client_again, server_again, certificate_again, exchange_again}
 

@@ -1,14 +1,14 @@
 -- What was read is what its parts write, kind by kind; of octets.
-use Rattle.std.proofs.Common.{◌≡◌, ℕ, ◌+◌, ◌*◌, ◌/◌, ◌%◌, ◌<◌, ◌≤◌, Bool, true, false, cond, ◌&&◌, eqb, leb, List, [], ◌∷◌, ◌++◌, length, take, drop, Some, None, Option, sym, refl, ap, ◌∙◌, ap₂, append_assoc, append-nil, arith, length-append}
+use Rattle.std.proofs.Common.{◌≡◌, ℕ, ◌+◌, ◌*◌, ◌/◌, ◌%◌, ◌<◌, ◌≤◌, Bool, true, false, cond, ◌&&◌, eqb, leb, List, [], ◌∷◌, ◌++◌, length, take, drop, Some, None, Option, sym, refl, ap, ◌∙◌, ap₂, append-nil, arith}
 use Rattle.std.proofs.lemmas.List.{take-append-drop}
 use Rattle.std.proofs.lemmas.Bool.{leb-true, eqb-true, le-leb, eq-eqb, and_parts, and_from}
 use Rattle.octets.specs.Octets.{Octets}
-use Rattle.octets.specs.Numbers.{two, three}
+use Rattle.octets.specs.Numbers.{two}
 use Rattle.octets.proofs.Members.{octets_take, octets_drop}
 use Rattle.handshake.specs.Parts.{is_none, versioned, sized1, sized2, sized3, Cut, uncut, cut, part, part1, part2, part3, after_cut, words, from_words}
 use Rattle.handshake.specs.Hellos.{ClientHello, ServerHello, from_client_hello, client_hello_sound, client_hello_fits, read_client_hello, from_server_hello, server_hello_sound, server_choice, read_server_hello}
 use Rattle.handshake.specs.Certificates.{from_certificates, certificate_body, some_each, certificate_sound, put_first, certificates_in, read_certificate}
-use Rattle.handshake.specs.Exchanges.{exchange_body, exchange_sound, exchange_sized, read_exchange}
+use Rattle.handshake.specs.Exchanges.{exchange_body, exchange_sound, read_exchange}
 use Rattle.handshake.proofs.Cutting.{part_cut, part_lengths}
 use Rattle.handshake.proofs.Lengths.{words-length}
 

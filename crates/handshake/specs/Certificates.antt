@@ -1,5 +1,5 @@
 -- Certificate: a list of certificates behind its length, each behind its own; the signing certificate comes before that for encryption.
-use Rattle.std.specs.Prelude.{ℕ, ◌+◌, Bool, true, false, cond, ◌&&◌, List, [], ◌∷◌, ◌++◌, length, Some, None, Option, nat_le}
+use Rattle.std.specs.Prelude.{ℕ, Bool, true, cond, ◌&&◌, List, [], ◌∷◌, ◌++◌, length, Some, None, Option, nat_le}
 use Rattle.handshake.specs.Parts.{is_none, sized3, Cut, uncut, cut, part3, after_cut}
 
 -- certificates one after another, each behind its length

@@ -1,5 +1,5 @@
 -- ServerKeyExchange, ServerHelloDone, ClientKeyExchange and Finished.
-use Rattle.std.specs.Prelude.{ℕ, ◌+◌, ◌*◌, ◌/◌, ◌%◌, Bool, true, false, cond, ◌&&◌, List, [], ◌∷◌, ◌++◌, length, Some, None, Option, ◌==◌, nat_le}
+use Rattle.std.specs.Prelude.{ℕ, ◌+◌, ◌*◌, Bool, cond, ◌&&◌, List, [], ◌∷◌, length, Some, None, Option, ◌==◌, nat_le}
 use Rattle.handshake.specs.Parts.{sized2}
 
 -- the two key exchanges: a two-octet length of 1 or more and that many octets, the signature or the wrapped premaster

@@ -1,5 +1,5 @@
 -- What reading a message comes to: its parts, or the fault of the first rule that it breaks.
-use Rattle.std.specs.Prelude.{ℕ, Bool, true, false, cond, ◌&&◌, List, [], ◌∷◌, Some, None, Ok, Err, Option, Result, ◌==◌}
+use Rattle.std.specs.Prelude.{ℕ, cond, ◌&&◌, List, Some, None, Ok, Err, Option, Result, ◌==◌}
 use Rattle.records.specs.declared.fault.Fault.{Fault}
 use Rattle.records.specs.declared.fault.Alert.TheVariants.{UnexpectedMessage, IllegalParameter, DecodeError, ProtocolVersion}
 use Rattle.records.specs.declared.fault.Layer as layers

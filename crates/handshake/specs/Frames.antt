@@ -1,5 +1,5 @@
 -- The frame of every handshake message: a type, a three-octet length and a body; and the first message of octets that came in.
-use Rattle.std.specs.Prelude.{ℕ, ◌+◌, ◌*◌, Bool, true, false, cond, List, [], ◌∷◌, ◌++◌, length, take, drop, nat_le}
+use Rattle.std.specs.Prelude.{ℕ, ◌+◌, ◌*◌, Bool, true, false, cond, List, [], ◌∷◌, length, take, drop, nat_le}
 use Rattle.handshake.specs.Parts.{sized3}
 
 -- the longest body that an end takes

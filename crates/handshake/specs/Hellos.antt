@@ -1,5 +1,5 @@
 -- ClientHello and ServerHello: their parts, written and read.
-use Rattle.std.specs.Prelude.{ℕ, ◌+◌, ◌*◌, ◌/◌, ◌%◌, Bool, true, false, cond, ◌&&◌, List, [], ◌∷◌, ◌++◌, length, Some, None, Option, ◌==◌, nat_le}
+use Rattle.std.specs.Prelude.{ℕ, ◌+◌, ◌*◌, ◌%◌, Bool, cond, ◌&&◌, List, [], ◌∷◌, ◌++◌, length, Some, None, Option, ◌==◌, nat_le}
 use Rattle.octets.specs.Numbers.{two}
 use Rattle.handshake.specs.Parts.{is_none, versioned, sized1, sized2, part, part1, part2, after_cut, words, from_words}
 

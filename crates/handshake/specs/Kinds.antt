@@ -1,5 +1,5 @@
 -- Every kind of message as one value of its parts: its type, its body written from them, and a body read into them.
-use Rattle.std.specs.Prelude.{ℕ, ◌+◌, Bool, true, false, cond, ◌&&◌, List, [], ◌∷◌, ◌++◌, length, Some, None, Option, nat_le}
+use Rattle.std.specs.Prelude.{ℕ, ◌+◌, Bool, true, cond, ◌&&◌, List, [], length, Some, None, Option, nat_le}
 use Rattle.std.specs.Option.{option_map}
 use Rattle.handshake.specs.declared.types.HandshakeType.{HandshakeType}
 use Rattle.handshake.specs.declared.types.HandshakeType as types

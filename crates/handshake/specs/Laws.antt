@@ -1,11 +1,11 @@
 -- The laws of messages: what is written reads back to its parts, and what is read is what its parts write, so that parts fix octets.
-use Rattle.std.specs.Prelude.{◌≡◌, ℕ, ◌+◌, ◌<◌, ◌≤◌, Bool, true, List, [], ◌∷◌, ◌++◌, length, take, drop, Some, Ok}
+use Rattle.std.specs.Prelude.{◌≡◌, ℕ, ◌+◌, ◌<◌, ◌≤◌, true, List, [], ◌∷◌, ◌++◌, length, take, drop, Some, Ok}
 use Rattle.std.specs.List.{slice_get}
 use Rattle.octets.specs.Octets.{Octets}
 use Rattle.handshake.specs.declared.types.HandshakeType.{HandshakeType}
 use Rattle.handshake.specs.declared.spans.Span.{Span}
 use Rattle.handshake.specs.Types.{type_number, numbered_type}
-use Rattle.handshake.specs.Frames.{message_limit, message, Next, not_ready, too_long, ready, next}
+use Rattle.handshake.specs.Frames.{message_limit, message, not_ready, too_long, ready, next}
 use Rattle.handshake.specs.Hellos.{client_offer, ServerHello}
 use Rattle.handshake.specs.Kinds.{Parts, client_hello_parts, server_hello_parts, certificate_parts, server_key_exchange_parts, server_hello_done_parts, client_key_exchange_parts, finished_parts, type_of, body_of, is_sound, read_body, octets_of}
 use Rattle.handshake.specs.Faults.{read_message}

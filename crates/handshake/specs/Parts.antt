@@ -1,5 +1,5 @@
 -- Parts of a list of octets: written behind their lengths, cut off the front again, and read two octets at a time.
-use Rattle.std.specs.Prelude.{ℕ, ◌+◌, ◌*◌, ◌/◌, ◌%◌, Bool, true, false, cond, not, ◌&&◌, List, [], ◌∷◌, ◌++◌, length, take, drop, Some, None, Option, ◌==◌, nat_le}
+use Rattle.std.specs.Prelude.{ℕ, ◌+◌, ◌*◌, Bool, true, false, cond, not, ◌&&◌, List, [], ◌∷◌, ◌++◌, length, take, drop, None, Option, ◌==◌, nat_le}
 use Rattle.octets.specs.Numbers.{two, three}
 
 abbrev pub is_none : List ℕ → Bool

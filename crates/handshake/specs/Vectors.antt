@@ -1,5 +1,5 @@
 -- Messages written out: the shortest of each kind with a sound body, and the fault of each breach.
-use Rattle.std.specs.Prelude.{◌≡◌, ℕ, List, [], ◌∷◌, ◌++◌, set, replicate, Ok, Err, slice_set}
+use Rattle.std.specs.Prelude.{◌≡◌, ℕ, List, [], ◌∷◌, ◌++◌, replicate, Ok, Err, slice_set}
 use Rattle.handshake.specs.declared.types.HandshakeType as types
 use Rattle.handshake.specs.Hellos.{client_offer, server_answer}
 use Rattle.handshake.specs.Kinds.{Parts, client_hello_parts, server_hello_parts, certificate_parts, server_key_exchange_parts, server_hello_done_parts, client_key_exchange_parts, finished_parts, octets_of}

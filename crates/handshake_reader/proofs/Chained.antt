@@ -1,8 +1,7 @@
 -- Certificates one after another: what a walk over them meets, whatever number of them is allowed for.
-use Rattle.std.proofs.Common.{◌≡◌, ℕ, zero, suc, ◌+◌, ◌-◌, ◌*◌, ◌<◌, ◌≤◌, Bool, true, false, cond, eqb, leb, List, [], ◌∷◌, ◌++◌, length, take, drop, is_some, Some, None, Option, sym, refl, ap, ◌∙◌, inl, inr, arith}
-use Rattle.std.proofs.lemmas.List.{length-take-le, length-drop}
-use Rattle.std.proofs.lemmas.Bool.{cases_Bool, leb-true, le-leb, lt-leb, ne_eqb, cond-true, cond-false}
-use Rattle.handshake.specs.Parts.{is_none, Cut, uncut, cut, part, part3, after_cut}
+use Rattle.std.proofs.Common.{◌≡◌, ℕ, suc, ◌+◌, ◌≤◌, Bool, true, false, cond, eqb, leb, List, [], ◌∷◌, length, is_some, Some, None, Option, sym, refl, ap, ◌∙◌, inl, inr, arith}
+use Rattle.std.proofs.lemmas.Bool.{cases_Bool, le-leb, lt-leb, ne_eqb, cond-true, cond-false}
+use Rattle.handshake.specs.Parts.{is_none, Cut, uncut, cut, part3, after_cut}
 use Rattle.std.specs.List.{slice_get}
 use Rattle.handshake.proofs.Cutting.{part3_lengths}
 use Rattle.handshake.specs.Certificates.{put_first, certificates_in, certificates_seen, seen_first, read_certificate}

@@ -1,8 +1,8 @@
 -- Parts behind lengths, as a slice pattern names them: the octets by their places, and the rest.
-use Rattle.std.proofs.Common.{◌≡◌, ℕ, ◌+◌, ◌-◌, ◌*◌, ◌≤◌, List, [], ◌∷◌, length, get_or, take, drop, Some, None, sym, refl, ap, ◌∙◌, arith}
+use Rattle.std.proofs.Common.{◌≡◌, ℕ, ◌+◌, ◌-◌, ◌*◌, ◌≤◌, List, [], ◌∷◌, length, get_or, take, drop, Some, sym, ap, ◌∙◌, arith}
 use Rattle.std.proofs.lemmas.List.{take_rest}
 use Rattle.std.proofs.lemmas.Bool.{cond-true, and_from, le-leb, eq-eqb}
-use Rattle.handshake.specs.Parts.{Cut, part, part1, part2, part3}
+use Rattle.handshake.specs.Parts.{part, part1, part2, part3}
 use Rattle.handshake.specs.Exchanges.{read_exchange}
 
 pub part1_at : (xs : List ℕ) → 1 ≤ length xs → part1 xs ≡ part (get_or xs 0 0) (take (length xs - 1) (drop 1 xs))

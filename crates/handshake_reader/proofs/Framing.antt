@@ -1,14 +1,13 @@
 -- Reading a framed message: what a ready one tells of the octets, and what its reader then comes to.
-use Rattle.std.proofs.Common.{◌≡◌, ℕ, ◌+◌, ◌-◌, ◌*◌, ◌≤◌, Bool, true, false, cond, eqb, leb, List, [], ◌∷◌, ◌++◌, length, take, drop, Ok, Err, sym, refl, ap, ◌∙◌, ap₂, inl, inr, arith}
+use Rattle.std.proofs.Common.{◌≡◌, ℕ, ◌+◌, ◌-◌, ◌*◌, ◌≤◌, false, leb, List, [], ◌∷◌, ◌++◌, length, take, drop, Err, refl, ◌∙◌, inl, inr, arith}
 use Rattle.std.proofs.lemmas.List.{length-take-le, length-drop, take_rest, take_all, drop_all}
 use Rattle.std.proofs.lemmas.Bool.{cases_Bool, leb-true, eq-eqb}
 use Rattle.handshake.specs.declared.types.HandshakeType.{HandshakeType}
-use Rattle.handshake_reader.specs.declared.frames.FirstMessage.{FirstMessage}
 use Rattle.handshake_reader.specs.declared.frames.FirstMessage.TheVariants.{NotReady, TooLong, Ready}
 use Rattle.handshake.specs.Parts.{is_none}
 use Rattle.handshake.specs.Types.{type_number}
-use Rattle.handshake.specs.Frames.{Next, not_ready, too_long, ready, next, next_of, message_limit}
-use Rattle.handshake.specs.Faults.{read_parts, read_next, read_message, layout_fault}
+use Rattle.handshake.specs.Frames.{ready, next, next_of, message_limit}
+use Rattle.handshake.specs.Faults.{read_parts, read_message, layout_fault}
 use Rattle.handshake_reader.specs.Views.{first_of}
 
 -- a message that is ready stands whole behind its header of four octets

@@ -1,8 +1,8 @@
 -- Two-octet numbers in a list: how many there are, and each by its place.
-use Rattle.std.proofs.Common.{◌≡◌, ℕ, zero, suc, ◌+◌, ◌*◌, ◌/◌, ◌%◌, ◌<◌, ◌≤◌, Bool, true, false, cond, eqb, List, [], ◌∷◌, ◌++◌, length, get_or, drop, sym, refl, ap, ◌∙◌, arith}
+use Rattle.std.proofs.Common.{◌≡◌, ℕ, zero, suc, ◌+◌, ◌*◌, ◌/◌, ◌<◌, ◌≤◌, Bool, true, false, cond, eqb, List, [], ◌∷◌, length, get_or, drop, sym, refl, ap, ◌∙◌, arith}
 use Rattle.std.proofs.lemmas.List.{at_drop_more, at_drop_all}
 use Rattle.std.proofs.lemmas.Bool.{cond-true, cond-false, eq-eqb, ne_eqb}
-use Rattle.handshake.specs.Parts.{words, from_words, among}
+use Rattle.handshake.specs.Parts.{words, among}
 
 pub word_at : (xs : List ℕ) (i : ℕ) → i < length xs / 2 → get_or (words xs) i 0 ≡ get_or xs (2 * i) 0 * 256 + get_or xs (2 * i + 1) 0
 word_at [] i h = absurd (omega arith)

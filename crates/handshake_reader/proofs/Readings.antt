@@ -1,5 +1,5 @@
 -- How far a reader of a hello comes, by what it has cut so far.
-use Rattle.std.proofs.Common.{◌≡◌, ℕ, Bool, true, false, cond, List, Some, None, refl}
+use Rattle.std.proofs.Common.{◌≡◌, ℕ, cond, List, Some, None}
 use Rattle.handshake.specs.Parts.{versioned, uncut, cut, part, part1, part2, words}
 use Rattle.handshake.specs.Hellos.{client_hello_fits, read_client_hello, server_choice, read_server_hello}
 

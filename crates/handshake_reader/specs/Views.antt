@@ -1,5 +1,5 @@
 -- How what the readers give is seen by the definitions.
-use Rattle.std.specs.Prelude.{ℕ, List, [], ◌∷◌, length, Some, None, Option}
+use Rattle.std.specs.Prelude.{ℕ, List, length, Some, None, Option}
 use Rattle.handshake.specs.Parts as parts
 use Rattle.handshake.specs.Frames as frames
 use Rattle.handshake.specs.Hellos as hellos

@@ -1,5 +1,5 @@
 -- Lists laid one after the other as far as there is room, and a message laid as header and body.
-use Rattle.std.proofs.Common.{◌≡◌, ℕ, ◌+◌, ◌-◌, ◌*◌, ◌/◌, ◌%◌, ◌<◌, ◌≤◌, min, Bool, true, false, cond, ◌&&◌, eqb, leb, List, [], ◌∷◌, ◌++◌, length, get_or, take, drop, is_some, Some, None, Option, sym, refl, ap, ◌∙◌, ap₂, inl, inr, arith, rules}
+use Rattle.std.proofs.Common.{◌≡◌, ℕ, ◌+◌, ◌-◌, ◌%◌, ◌≤◌, min, Bool, true, false, cond, leb, List, [], ◌∷◌, ◌++◌, length, get_or, is_some, Some, None, Option, sym, refl, ap, ◌∙◌, ap₂, inl, inr, arith, rules}
 use Rattle.std.proofs.lemmas.List.{same_lists, places, length-append}
 use Rattle.std.proofs.lemmas.Bool.{cases_Bool, cases_lt, leb-true, le-leb, and_parts, and_from, cond-true, cond-false}
 use Rattle.octets.specs.Numbers.{three}
@@ -7,7 +7,6 @@ use Rattle.octets.specs.Laid.{laid}
 use Rattle.octets.proofs.Lays.{laid-laid, length-laid, none_laid}
 use Rattle.handshake.specs.declared.types.HandshakeType.{HandshakeType}
 use Rattle.handshake.specs.Types.{type_number}
-use Rattle.handshake.specs.Frames.{message}
 use Rattle.handshake.specs.Kinds.{Parts, body_of, is_sound, writable, body_size, with_body, message_end, with_message, has_room}
 
 -- where there is no room, nothing changes

@@ -1,5 +1,5 @@
 -- Octets written in hexadecimal: two digits each, the higher first.
-use Rattle.std.specs.Prelude.{ℕ, ◌+◌, ◌-◌, ◌*◌, cond, ◌&&◌, List, [], ◌∷◌, ◌++◌, Some, None, Ok, Err, Option, Result, nat_le}
+use Rattle.std.specs.Prelude.{ℕ, ◌+◌, ◌-◌, ◌*◌, cond, ◌&&◌, List, [], ◌∷◌, Some, None, Option, nat_le}
 
 -- the value of a digit, by its code: 0 to 9, a to f, A to F
 abbrev pub digit : ℕ → Option ℕ

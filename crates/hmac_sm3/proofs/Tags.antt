@@ -1,5 +1,5 @@
 -- The key block, text in pieces, and the laws of a tag.
-use Rattle.std.proofs.Common.{◌≡◌, ℕ, ◌+◌, ◌-◌, ◌<◌, ◌≤◌, List, [], ◌∷◌, ◌++◌, length, get_or, drop, replicate, sym, refl, ap, ◌∙◌, arith, Bor}
+use Rattle.std.proofs.Common.{◌≡◌, ℕ, ◌+◌, ◌<◌, ◌≤◌, List, [], ◌∷◌, ◌++◌, length, get_or, drop, replicate, sym, refl, ap, ◌∙◌, Bor}
 use Rattle.std.proofs.lemmas.List.{append-nil, drop-replicate, at_drop_more, at_drop_all}
 use Rattle.hmac_sm3.specs.Pieces.{pieced}
 use Rattle.octets.specs.Laid.{laid}

@@ -1,6 +1,6 @@
 -- Worked values of HMAC-SM3 and the PRF.
 -- `TagStandard` is the value of GM/T 0042-2015; the others are Python's `hmac` with the SM3 of OpenSSL 3.0.
-use Rattle.std.specs.Prelude.{◌≡◌, ℕ, suc, ◌+◌, List, [], ◌∷◌, ◌++◌, replicate, codes}
+use Rattle.std.specs.Prelude.{◌≡◌, [], ◌∷◌, ◌++◌, replicate, codes}
 use Rattle.std.specs.List.{range_with_len}
 use Rattle.hmac_sm3.specs.Hmac.{hmac}
 use Rattle.hmac_sm3.specs.Prf.{prf}

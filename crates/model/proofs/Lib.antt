@@ -32,4 +32,5 @@ pub mod Limits
 pub mod Room
 pub mod EndLaws
 pub mod Bench
+pub mod Alone
 pub mod Tlcp

@@ -7,8 +7,9 @@ use Rattle.key_schedule.proofs.Keys.{length-key_material, key_material_octets, l
 use Rattle.model.specs.Schedule.{ScheduleLaws, joined_octets}
 use Rattle.model.specs.Protections.{Protection, Lawful}
 use Rattle.model.specs.Runs.{Check, value}
-use Rattle.model.specs.Tlcp.{tlcp, TranscriptIsSm3, EndLawsStand, LawOfLines}
+use Rattle.model.specs.Tlcp.{tlcp, TranscriptIsSm3, EndLawsStand, BenchStands, LawOfLines}
 use Rattle.model.proofs.EndLaws.{end_laws}
+use Rattle.model.proofs.Bench.{bench}
 use Rattle.model.proofs.Whole.{line_law}
 
 pub tlcp_laws : ScheduleLaws tlcp
@@ -28,6 +29,9 @@ transcript_is_sm3 c = ap (λ d. verify_data c.master c.label d) (finished_is (jo
 
 pub end_laws_stand : EndLawsStand
 end_laws_stand P law = end_laws tlcp P tlcp_laws law
+
+pub bench_stands : BenchStands
+bench_stands P = bench tlcp P
 
 -- for the public call that makes an end
 pub law_of_lines : (P : Protection) → Lawful P → LawOfLines P

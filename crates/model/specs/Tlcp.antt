@@ -8,6 +8,7 @@ use Rattle.model.specs.Steps.{step}
 use Rattle.model.specs.EndLaws.{EndLaws}
 use Rattle.model.specs.Runs.{Check, value}
 use Rattle.model.specs.Law.{LineLaw}
+use Rattle.model.specs.Bench.{Bench}
 
 -- the verify data are made of the digest of the running hash
 abbrev pub tlcp : Schedule Running
@@ -17,9 +18,13 @@ tlcp = record { blank = start; absorb = absorb; master_secret = master_secret; k
 abbrev pub TranscriptIsSm3 : Type 0
 TranscriptIsSm3 = (c : Check) → value tlcp c ≡ verify_data c.master c.label (sm3 (joined_octets c.messages))
 
--- the laws of one end, with any lawful protection
+-- the laws of one end and the pieces for the bench, with any lawful protection
 abbrev pub EndLawsStand : Type 0
 EndLawsStand = (P : Protection) → Lawful P → EndLaws tlcp P (step tlcp P)
+
+-- the pieces for the bench
+abbrev pub BenchStands : Type 0
+BenchStands = (P : Protection) → Bench tlcp P
 
 -- the law of the lines over a kind of protection
 abbrev pub LawOfLines : Protection → Type 0

@@ -22,24 +22,31 @@ abbrev pub chosen : Option ℕ → List ℕ → List ℕ → List ℕ → Deed
 chosen None r m rest = raises AtStage 40
 chosen (Some s) r m rest = takes_client_hello r s m rest
 
--- a ClientHello, if its layout is sound, against the suites that the server allows
+module _ {H : Type 0} where
+  -- a ClientHello, if its layout is sound
+  abbrev pub on_client_hello : End H → Option ClientHello → List ℕ → List ℕ → Deed
+  on_client_hello e None m rest = raises AtMessage 50
+  on_client_hello e (Some h) m rest = cond (among 0 h.compressions) (chosen (first_shared h.suites e.suites) h.random m rest) (raises AtMessage 47)
+
+  -- a ServerHello, if its layout is sound
+  abbrev pub on_server_hello : End H → Option ServerHello → List ℕ → List ℕ → Deed
+  on_server_hello e None m rest = raises AtMessage 50
+  on_server_hello e (Some h) m rest = cond (among h.suite e.suites && h.compression == 0) (takes_server_hello h.random h.suite m rest) (raises AtMessage 47)
+
+-- ---- the same against a list alone: a ClientHello and the suites that the server allows
 abbrev pub on_client_hello_at : List ℕ → Option ClientHello → List ℕ → List ℕ → Deed
 on_client_hello_at allowed None m rest = raises AtMessage 50
 on_client_hello_at allowed (Some h) m rest = cond (among 0 h.compressions) (chosen (first_shared h.suites allowed) h.random m rest) (raises AtMessage 47)
 
--- a ServerHello, if its layout is sound, against the suites that the client offered
+-- a ServerHello and the suites that the client offered
 abbrev pub on_server_hello_at : List ℕ → Option ServerHello → List ℕ → List ℕ → Deed
 on_server_hello_at offered None m rest = raises AtMessage 50
 on_server_hello_at offered (Some h) m rest = cond (among h.suite offered && h.compression == 0) (takes_server_hello h.random h.suite m rest) (raises AtMessage 47)
 
-module _ {H : Type 0} where
-  -- the same of an end
-  abbrev pub on_client_hello : End H → Option ClientHello → List ℕ → List ℕ → Deed
-  on_client_hello e h m rest = on_client_hello_at e.suites h m rest
-
-  -- the same of an end
-  abbrev pub on_server_hello : End H → Option ServerHello → List ℕ → List ℕ → Deed
-  on_server_hello e h m rest = on_server_hello_at e.suites h m rest
+-- a Finished and the value expected; the deed if all is well, the body and what follows the message
+abbrev pub on_finished_at : List ℕ → Deed → List ℕ → List ℕ → Deed
+on_finished_at expected d x rest =
+    cond (length x == 12) (cond (is_none rest) (cond (same x expected) d fails_check) (raises AtStage 10)) (raises AtMessage 50)
 
 -- ---- two certificates; a key exchange of sound layout
 abbrev pub on_certificate : Option (List (List ℕ)) → Deed
@@ -51,16 +58,12 @@ abbrev pub on_exchange : Option (List ℕ) → Deed → Deed
 on_exchange None d = raises AtMessage 50
 on_exchange (Some x) d = d
 
--- ---- Finished: 12 octets, nothing behind it, the check value that is expected.
--- The value expected, the deed if all is well, the body and what follows the message
-abbrev pub on_finished_at : List ℕ → Deed → List ℕ → List ℕ → Deed
-on_finished_at expected d x rest =
-    cond (length x == 12) (cond (is_none rest) (cond (same x expected) d fails_check) (raises AtStage 10)) (raises AtMessage 50)
-
 module _ {H : Type 0} (K : Schedule H) where
-  -- the value that an end expects of a sender
+  -- ---- Finished: 12 octets, nothing behind it, the check value that is expected.
+  -- The sender, the deed if all is well, the body and what follows the message
   abbrev pub on_finished : Role → End H → Deed → List ℕ → List ℕ → Deed
-  on_finished X e d x rest = on_finished_at (K.verify_data X e.master e.transcript) d x rest
+  on_finished X e d x rest =
+      cond (length x == 12) (cond (is_none rest) (cond (same x (K.verify_data X e.master e.transcript)) d fails_check) (raises AtStage 10)) (raises AtMessage 50)
 
   -- ---- a message of the type that the stage awaits: the whole of it, its body, what follows
   abbrev pub on_message : Stage → End H → List ℕ → List ℕ → List ℕ → Deed

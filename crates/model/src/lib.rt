@@ -6,7 +6,7 @@ mod question;
 mod refusal;
 mod stage;
 
-pub use laws::{end_laws_stand, transcript_is_sm3};
+pub use laws::{bench_stands, end_laws_stand, transcript_is_sm3};
 pub use question::Question;
 pub use refusal::Refusal;
 pub use stage::Stage;

@@ -1,5 +1,5 @@
 -- What the calls of a protection yield, in the steps by which code comes to it: `wipe`, `lay`, and the tests of lengths.
-use Rattle.std.proofs.Common.{◌≡◌, ℕ, ◌+◌, ◌≤◌, true, List, ◌++◌, length, drop, replicate, Some, Ok, Err, Option, Result, sym, ap, ◌∙◌}
+use Rattle.std.proofs.Common.{◌≡◌, ℕ, ◌+◌, ◌≤◌, true, List, ◌++◌, length, replicate, Some, Ok, Err, Option, Result, sym, ap, ◌∙◌}
 use Rattle.std.specs.Option.{option_map}
 use Rattle.std.proofs.lemmas.Bool.{cond-true, and_parts, leb-true, eqb-true}
 use Rattle.std.proofs.lemmas.List.{drop-replicate, length-replicate}

@@ -1,8 +1,8 @@
 -- Alerts read back, fix their octets, and do what their parts say.
-use Rattle.std.proofs.Common.{◌≡◌, ℕ, ◌<◌, Bool, true, false, cond, eqb, List, [], ◌∷◌, is_some, Some, None, Ok, Err, Option, Result, sym, refl, ap, ◌∙◌, ap₂, inl, inr, arith}
+use Rattle.std.proofs.Common.{◌≡◌, ℕ, Bool, true, false, cond, eqb, [], ◌∷◌, is_some, Some, None, Ok, Err, Option, sym, refl, ap, ◌∙◌, ap₂, arith}
 use Rattle.std.proofs.lemmas.Bool.{true≢false, eqb-true, ne_eqb}
-use Rattle.records.specs.Faults.{alerts, alert_number, alert_of, levels, level_number, level_of, listed}
-use Rattle.records.specs.Alerts.{content_fault, alert_octets, both, read_alert, warning_effect, judged, received_alert}
+use Rattle.records.specs.Faults.{alerts, alert_number, alert_of, levels, level_number, level_of}
+use Rattle.records.specs.Alerts.{content_fault, both, warning_effect}
 use Rattle.records.specs.Laws.{AlertReadsBack, AlertWritesAgain, AlertMakesOctets, EffectFollows, effect_read}
 use Rattle.records.specs.declared.alert.AlertEffect.TheVariants.{Die}
 use Rattle.records.specs.declared.alert.AlertMessage.{AlertMessage}

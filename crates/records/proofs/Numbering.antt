@@ -1,7 +1,7 @@
 -- Numbers and what they stand for undo each other; the ranges of listed numbers are the numbers of the alerts.
-use Rattle.std.proofs.Common.{◌≡◌, ℕ, zero, suc, ◌+◌, ◌<◌, ◌≤◌, Bool, true, false, cond, not, ◌&&◌, ◌||◌, eqb, ltb, leb, ◌⊎◌, List, [], ◌∷◌, is_some, Some, None, Option, sym, refl, ap, ◌∙◌, inl, inr, arith}
+use Rattle.std.proofs.Common.{◌≡◌, ℕ, zero, suc, ◌<◌, ◌≤◌, Bool, true, false, cond, not, ◌&&◌, eqb, ltb, List, [], ◌∷◌, is_some, Some, None, sym, refl, ap, ◌∙◌, inl, inr, arith}
 use Rattle.std.proofs.lemmas.Bool.{eqb-true, ltb-true, ne_eqb, cases_Bool, cases_eq, cases_lt, and_parts}
-use Rattle.records.specs.Faults.{numbered, alerts, alert_number, alert_of, level_number, level_of, listed, within}
+use Rattle.records.specs.Faults.{numbered, alerts, alert_number, alert_of, level_number, level_of, listed}
 use Rattle.records.specs.Kinds.{kind_number, kind_of, known_kind}
 use Rattle.records.specs.declared.fault.Alert.{Alert}
 use Rattle.records.specs.declared.fault.Alert.TheVariants.{CloseNotify, UnexpectedMessage, BadRecordMac, DecryptionFailed, RecordOverflow, DecompressionFailure, HandshakeFailure, BadCertificate, UnsupportedCertificate, CertificateRevoked, CertificateExpired, CertificateUnknown, IllegalParameter, UnknownCa, AccessDenied, DecodeError, DecryptError, ProtocolVersion, InsufficientSecurity, InternalError, UserCanceled, NoRenegotiation, UnsupportedSite2site, NoArea, UnsupportedAreatype, BadIbcparam, UnsupportedIbcparam, IdentityNeed}

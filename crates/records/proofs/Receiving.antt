@@ -1,11 +1,10 @@
 -- The laws of records, from the ways that reading can go.
-use Rattle.std.proofs.Common.{◌≡◌, ℕ, suc, ◌+◌, ◌-◌, ◌*◌, ◌/◌, ◌%◌, ◌<◌, ◌≤◌, cond, ◌&&◌, eqb, leb, ◌⊎◌, List, [], ◌∷◌, ◌++◌, length, get_or, take, replicate, sym, refl, ap, ◌∙◌, inl, inr, arith, rules}
+use Rattle.std.proofs.Common.{◌≡◌, ℕ, suc, ◌+◌, ◌-◌, ◌*◌, ◌/◌, ◌%◌, ◌<◌, ◌≤◌, cond, ◌&&◌, eqb, leb, List, [], ◌∷◌, ◌++◌, length, get_or, take, replicate, sym, refl, ap, ◌∙◌, inl, inr, arith}
 use Rattle.std.proofs.lemmas.List.{take_at, length-append, length-take-le, length-replicate, same_lists, places}
 use Rattle.std.proofs.lemmas.Bool.{eq-eqb, eqb-true, le-leb, lt-leb, leb-true, leb-false, cases_Bool, cases_lt, and_parts}
-use Rattle.octets.specs.Octets.{Octets}
 use Rattle.octets.specs.Laid.{laid}
 use Rattle.octets.proofs.Lays.{length-laid}
-use Rattle.records.specs.Records.{header, framed, Received, more, faulty, whole, bounded, received}
+use Rattle.records.specs.Records.{header, framed, Received, more, faulty, whole, bounded}
 use Rattle.records.specs.Laws.{ReadsBack, WritesAgain, PartsFix, MakesOctets, Begins, MoreOnly, MoreAlways, Completes}
 
 pub reads_back : ReadsBack

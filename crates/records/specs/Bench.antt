@@ -1,5 +1,5 @@
 -- Small records and what is said of each, by computation.
-use Rattle.std.specs.Prelude.{◌≡◌, Bool, true, false, List, [], ◌∷◌, length, Ok, Err}
+use Rattle.std.specs.Prelude.{◌≡◌, true, false, [], ◌∷◌, length, Ok, Err}
 use Rattle.records.specs.Kinds.{known_kind}
 use Rattle.records.specs.Records.{framed, more, faulty, whole, received, limit_of}
 use Rattle.records.specs.Alerts.{content_fault, received_alert}

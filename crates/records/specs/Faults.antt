@@ -1,5 +1,5 @@
 -- The numbers of alerts (GB/T 38636-2020, alert protocol), of their levels and of the layers that find a fault.
-use Rattle.std.specs.Prelude.{◌≡◌, ℕ, Bool, cond, ◌&&◌, ◌||◌, List, [], ◌∷◌, Some, None, Option, ◌==◌, nat_le}
+use Rattle.std.specs.Prelude.{ℕ, Bool, cond, ◌&&◌, ◌||◌, List, [], ◌∷◌, Some, None, Option, ◌==◌, nat_le}
 use Rattle.records.specs.declared.fault.Alert.{Alert}
 use Rattle.records.specs.declared.fault.Alert.TheVariants.{CloseNotify, UnexpectedMessage, BadRecordMac, DecryptionFailed, RecordOverflow, DecompressionFailure, HandshakeFailure, BadCertificate, UnsupportedCertificate, CertificateRevoked, CertificateExpired, CertificateUnknown, IllegalParameter, UnknownCa, AccessDenied, DecodeError, DecryptError, ProtocolVersion, InsufficientSecurity, InternalError, UserCanceled, NoRenegotiation, UnsupportedSite2site, NoArea, UnsupportedAreatype, BadIbcparam, UnsupportedIbcparam, IdentityNeed}
 use Rattle.records.specs.declared.fault.AlertLevel.{AlertLevel}

@@ -1,13 +1,13 @@
 -- Laws of numbers, records and alerts: what is written reads back, and what is read fixes the octets.
-use Rattle.std.specs.Prelude.{◌≡◌, ℕ, ◌+◌, ◌<◌, ◌≤◌, ◌⊎◌, List, [], ◌∷◌, ◌++◌, length, take, is_some, Some, None, Ok, Err, Option, Result}
+use Rattle.std.specs.Prelude.{◌≡◌, ℕ, ◌+◌, ◌<◌, ◌≤◌, ◌⊎◌, List, ◌++◌, length, take, is_some, Some, Ok, Err, Option, Result}
 use Rattle.octets.specs.Octets.{Octets}
 use Rattle.octets.specs.Laid.{laid}
 use Rattle.records.specs.Faults.{alerts, alert_number, alert_of, level_number, level_of, listed}
 use Rattle.records.specs.Kinds.{kind_number, kind_of, known_kind}
-use Rattle.records.specs.Records.{header, framed, Received, more, faulty, whole, received}
+use Rattle.records.specs.Records.{header, framed, more, whole, received}
 use Rattle.records.specs.Alerts.{alert_octets, read_alert, received_alert, warning_effect}
 use Rattle.records.specs.declared.alert.AlertEffect.{AlertEffect}
-use Rattle.records.specs.declared.alert.AlertEffect.TheVariants.{PassBy, Close, Die}
+use Rattle.records.specs.declared.alert.AlertEffect.TheVariants.{Die}
 use Rattle.records.specs.declared.alert.AlertMessage.{AlertMessage}
 use Rattle.records.specs.declared.fault.Alert.{Alert}
 use Rattle.records.specs.declared.fault.AlertLevel.{AlertLevel}

@@ -1,5 +1,5 @@
 -- How the code's answers are read as the values of the definitions.
-use Rattle.std.specs.Prelude.{◌≡◌, ℕ, List, Ok, Err, Result}
+use Rattle.std.specs.Prelude.{◌≡◌, Ok, Err, Result}
 use Rattle.records.specs.Faults.{alert_number}
 use Rattle.records.specs.Records.{Received, more, faulty, whole}
 use Rattle.records.specs.declared.fault.Fault.{Fault}

@@ -3,7 +3,7 @@ use Rattle.std.proofs.Common.{◌≡◌, ℕ, suc, ◌+◌, ◌%◌, ◌^◌, �
 use Rattle.std.proofs.lemmas.List.{append-nil, append_assoc, length-append}
 use Rattle.std.proofs.lemmas.Bool.{eq-eqb, ne_eqb, cond-true, cond-false}
 use Rattle.sm3.specs.Compress.{compress}
-use Rattle.sm3.specs.Hash.{Running, taken, absorb}
+use Rattle.sm3.specs.Hash.{Running, absorb}
 
 -- a hash under way, by its parts
 abbrev pub run : List ℕ → List ℕ → ℕ → Running

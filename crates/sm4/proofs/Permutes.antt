@@ -1,5 +1,5 @@
 -- The S-box is a permutation: the place of each octet in the table, found and tested by computation.
-use Rattle.std.proofs.Common.{◌≡◌, ℕ, zero, suc, ◌<◌, Bool, cond, eqb, ltb, List, [], ◌∷◌, get_or, sym, ap, ◌∙◌, eqb→eq, ltb→lt}
+use Rattle.std.proofs.Common.{◌≡◌, ℕ, suc, ◌<◌, Bool, cond, eqb, ltb, List, [], ◌∷◌, get_or, sym, ap, ◌∙◌, eqb→eq, ltb→lt}
 use Rattle.sm4.specs.Laws.{SboxPermutes}
 use Rattle.sm4.specs.Sbox.{sbox, sbox_table}
 use Rattle.sm4.proofs.Table.{at, both, both_left, both_right}

@@ -1,5 +1,5 @@
 -- What is proved of the cipher as a whole, and the standard's example.
-use Rattle.std.specs.Prelude.{◌≡◌, ℕ, ◌<◌, List, [], ◌∷◌, reverse, length}
+use Rattle.std.specs.Prelude.{◌≡◌, ℕ, ◌<◌, List, [], ◌∷◌, length}
 use Rattle.octets.specs.Octets.{Octets}
 use Rattle.sm4.specs.Cipher.{crypt, encrypt, decrypt, round_keys}
 use Rattle.sm4.specs.Sbox.{sbox}

@@ -1,5 +1,5 @@
 -- Words of 32 bits, as numbers below 2 ^ 32, and their octets, the highest first.
-use Rattle.std.specs.Prelude.{ℕ, ◌+◌, ◌-◌, ◌*◌, ◌/◌, ◌%◌, ◌^◌, List, [], ◌∷◌, bit_or, slice_index}
+use Rattle.std.specs.Prelude.{ℕ, ◌+◌, ◌-◌, ◌*◌, ◌/◌, ◌%◌, ◌^◌, List, ◌∷◌, bit_or, slice_index}
 
 -- a word rotated left by k places, 0 < k < 32
 abbrev pub rotl : ℕ → ℕ → ℕ

@@ -1,4 +1,4 @@
-use Rattle.std.proofs.Common.{◌≡◌, ◌+◌, ◌*◌, ◌<◌, length, sym, ◌∙◌, arith, rules}
+use Rattle.std.proofs.Common.{◌+◌, ◌*◌, ◌<◌, length, sym, arith}
 use Rattle.hex_text.proofs.Decodes.{decode_more, decode_all}
 use Rattle.hex_text.proofs.decode.Goals as goal
 

@@ -1,4 +1,4 @@
-use Rattle.std.proofs.Common.{◌≡◌, ℕ, ◌-◌, ◌/◌, ◌<◌, length, refl, ap, ◌∙◌, arith}
+use Rattle.std.proofs.Common.{◌≡◌, ◌-◌, ◌/◌, ◌<◌, length, refl, ap, ◌∙◌, arith}
 use Rattle.sm4.specs.Cipher.{crypt}
 use Rattle.sm4.specs.View.{keys_of}
 use Rattle.gcm.specs.Blocks.{block_count}

@@ -1,9 +1,9 @@
-use Rattle.std.proofs.Common.{◌≡◌, ◌≤◌, [], length, is_some, sym, ap, ◌∙◌, arith}
+use Rattle.std.proofs.Common.{◌≤◌, length, is_some, sym, ap, ◌∙◌, arith}
 use Rattle.std.proofs.lemmas.List.{nil_from_length}
 use Rattle.std.proofs.lemmas.Bool.{eqb-true, eqb-false}
 use Rattle.handshake.specs.Certificates.{certificates_in}
 use Rattle.handshake.proofs.Cutting.{part3_lengths}
-use Rattle.handshake_reader.proofs.Chained.{filled_more, filled_empty, filled_none}
+use Rattle.handshake_reader.proofs.Chained.{filled_more}
 use Rattle.handshake_reader.proofs.certificates.is_filled.Goals as goal
 
 pub loop-left-preserved : goal.loop-left-preserved

@@ -1,4 +1,4 @@
-use Rattle.std.proofs.Common.{◌≡◌, sym, ◌∙◌}
+use Rattle.std.proofs.Common.{sym, ◌∙◌}
 use Rattle.handshake_reader.proofs.Chained.{is_none_empty, certificate_stops, certificate_follows, certificate_unfilled, certificate_filled}
 use Rattle.handshake_reader.proofs.certificates.read_certificate.Goals as goal
 

@@ -1,4 +1,4 @@
-use Rattle.std.proofs.Common.{◌≡◌, sym, ◌∙◌}
+use Rattle.std.proofs.Common.{sym, ◌∙◌}
 use Rattle.std.proofs.lemmas.Bool.{cond-true, cond-false}
 use Rattle.handshake_reader.proofs.Readings.{client_stops_1, client_stops_2, client_stops_3, client_stops_4, client_stops_5, client_cut}
 use Rattle.handshake_reader.proofs.client_hello.read_client_hello.Goals as goal

@@ -1,4 +1,4 @@
-use Rattle.std.proofs.Common.{◌≡◌, ◌≤◌, length, rules}
+use Rattle.std.proofs.Common.{◌≤◌, length, rules}
 use Rattle.handshake_reader.proofs.Cuts.{exchange_at}
 use Rattle.handshake_reader.proofs.exchanges.read_exchange.Goals as goal
 

@@ -1,4 +1,4 @@
-use Rattle.std.proofs.Common.{◌≡◌, true, leb, length, arith, rules}
+use Rattle.std.proofs.Common.{◌≡◌, true, leb, length, arith}
 use Rattle.std.proofs.lemmas.List.{take_rest}
 use Rattle.std.proofs.lemmas.Bool.{le-leb}
 use Rattle.handshake_reader.proofs.parts.part.Goals as goal

@@ -1,4 +1,4 @@
-use Rattle.std.proofs.Common.{◌≡◌, sym, ◌∙◌}
+use Rattle.std.proofs.Common.{sym, ◌∙◌}
 use Rattle.std.proofs.lemmas.Bool.{cond-true, cond-false}
 use Rattle.handshake_reader.proofs.Readings.{server_stops_1, server_stops_2, server_stops_3, server_cut}
 use Rattle.handshake_reader.proofs.server_hello.read_server_hello.Goals as goal

@@ -1,6 +1,5 @@
-use Rattle.std.proofs.Common.{◌≡◌, ◌%◌, ◌≤◌, [], map, length, get_or, sym, refl, ap, ◌∙◌, arith}
+use Rattle.std.proofs.Common.{◌≡◌, ◌%◌, [], length, get_or, refl, ap, ◌∙◌, arith}
 use Rattle.octets.specs.Numbers.{three}
-use Rattle.handshake.specs.Certificates.{from_certificates}
 use Rattle.handshake_writer.proofs.Layings.{start, laying, then}
 use Rattle.handshake_writer.proofs.Written.{one_short, chain_more, chain_all}
 use Rattle.handshake_writer.proofs.chain.lay_certificates.Goals as goal

@@ -1,4 +1,4 @@
-use Rattle.std.proofs.Common.{◌≡◌, arith}
+use Rattle.std.proofs.Common.{arith}
 use Rattle.handshake_writer.proofs.Sizes.{carried_size}
 use Rattle.handshake_writer.proofs.exchanges.exchange_size.Goals as goal
 

@@ -1,4 +1,4 @@
-use Rattle.std.proofs.Common.{◌≡◌, ◌<◌, length, get_or, arith, rules}
+use Rattle.std.proofs.Common.{◌<◌, length, get_or, arith, rules}
 use lib.Bits.{bit_xor}
 use Rattle.std.proofs.lemmas.List.{take_more_set, length-set, take_all, map_more}
 use Rattle.hmac_sm3.specs.Hmac.{xored}

@@ -1,4 +1,4 @@
-use Rattle.std.proofs.Common.{◌≡◌, ◌+◌, ◌-◌, ◌≤◌, min, length, sym, arith, rules}
+use Rattle.std.proofs.Common.{◌≡◌, ◌-◌, ◌≤◌, min, length, arith, rules}
 use Rattle.octets.proofs.Lays.{put_laid, none_laid}
 use Rattle.octets.proofs.buffer.lay.Goals as goal
 

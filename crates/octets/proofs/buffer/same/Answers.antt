@@ -1,4 +1,4 @@
-use Rattle.std.proofs.Common.{◌≡◌, sym, arith}
+use Rattle.std.proofs.Common.{sym, arith}
 use Rattle.octets.proofs.Alike.{same_lengths, compare_more, compare_all}
 use Rattle.octets.proofs.buffer.same.Goals as goal
 

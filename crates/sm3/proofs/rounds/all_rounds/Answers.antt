@@ -1,4 +1,4 @@
-use Rattle.std.proofs.Common.{◌≡◌, sym, ◌∙◌, arith}
+use Rattle.std.proofs.Common.{sym, ◌∙◌, arith}
 use Rattle.sm3.specs.Compress.{words}
 use Rattle.sm3.proofs.Stepping.{Reached, length-words, filled_first, rounds_none, rounds_filled, reached_more}
 use Rattle.sm3.proofs.rounds.all_rounds.Goals as goal

@@ -1,7 +1,6 @@
-use Rattle.std.proofs.Common.{◌≡◌, ◌+◌, ◌-◌, ◌<◌, ◌≤◌, true, false, length, take, drop, replicate, sym, refl, ap, ◌∙◌, ap₂, arith}
-use Rattle.octets.specs.Octets.{same}
+use Rattle.std.proofs.Common.{◌-◌, ◌<◌, length, sym, ◌∙◌, arith}
 use Rattle.octets.specs.Roles.{peer}
-use Rattle.cbc_protection.specs.Padding.{pad, told_pad}
+use Rattle.cbc_protection.specs.Padding.{told_pad}
 use Rattle.cbc_protection.specs.Checked.{check_short, check_padding, check_mac, check_right, well_from, same_pad, same_mac}
 use Rattle.cbc_protection.proofs.keys.CbcKeys.check.Goals as goal
 

@@ -1,4 +1,4 @@
-use Rattle.std.proofs.Common.{◌≡◌, ◌+◌, ◌++◌, length, ap, ◌∙◌, arith}
+use Rattle.std.proofs.Common.{◌≡◌, ◌+◌, ◌++◌, length, ap, ◌∙◌}
 use Rattle.cbc_protection.specs.Layout.{mac}
 use Rattle.cbc_protection.specs.Pads.{length_mac}
 use Rattle.cbc_protection.specs.Sealed.{text_laid}

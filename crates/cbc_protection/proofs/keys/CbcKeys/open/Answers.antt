@@ -1,4 +1,4 @@
-use Rattle.std.proofs.Common.{◌≡◌, ◌+◌, ◌-◌, ◌%◌, ◌≤◌, length, sym, refl, ap, ◌∙◌, arith}
+use Rattle.std.proofs.Common.{◌-◌, length, refl, arith}
 use Rattle.cbc_protection.specs.View.{keying_of}
 use Rattle.cbc_protection.specs.Opened.{opened_none, opened_some, opened_size}
 use Rattle.cbc_protection.proofs.keys.CbcKeys.open.Goals as goal

@@ -1,4 +1,4 @@
-use Rattle.std.proofs.Common.{◌≡◌, ◌+◌, ◌%◌, ◌≤◌, length, ap, ◌∙◌, arith}
+use Rattle.std.proofs.Common.{◌≡◌, ◌+◌, ◌%◌, ◌≤◌, length, arith}
 use Rattle.sm4.specs.Cipher.{round_keys}
 use Rattle.cbc_protection.specs.Layout.{key_of}
 use Rattle.cbc_protection.specs.Records.{text_of}

@@ -1,4 +1,4 @@
-use Rattle.std.proofs.Common.{◌≡◌, length, refl, ap, ◌∙◌, arith, rules}
+use Rattle.std.proofs.Common.{length, refl, ap, ◌∙◌, arith}
 use Rattle.octets.specs.Numbers.{eight}
 use Rattle.gcm_protection.specs.Layout.{key_of, nonce_of, additional}
 use Rattle.gcm_protection.specs.Sealed.{seals_after, seals_end}

@@ -1,4 +1,4 @@
-use Rattle.std.proofs.Common.{◌≡◌, suc, length, sym, ap, ◌∙◌, arith}
+use Rattle.std.proofs.Common.{◌≡◌, suc, length, sym, ap, arith}
 use Rattle.handshake.specs.Certificates.{certificates_seen}
 use Rattle.handshake.proofs.Cutting.{part3_lengths}
 use Rattle.handshake_reader.proofs.Chained.{seen_more, seen_none, seen_short}

@@ -1,4 +1,4 @@
-use Rattle.std.proofs.Common.{◌≡◌, ◌<◌, ◌≤◌, length, arith}
+use Rattle.std.proofs.Common.{◌<◌, ◌≤◌, length, arith}
 use Rattle.handshake.specs.Parts.{words}
 use Rattle.handshake.proofs.Lengths.{words-length}
 use Rattle.handshake_reader.proofs.Listed.{word_at, among_found, among_more, among_all}

@@ -1,4 +1,4 @@
-use Rattle.std.proofs.Common.{◌≡◌, ℕ, List, [], sym, ◌∙◌, arith, Bor}
+use Rattle.std.proofs.Common.{ℕ, List, [], ◌∙◌, arith, Bor}
 use Rattle.handshake_writer.proofs.Written.{sized_more, sized_empty, sized_over, sized_all, chain_size}
 use Rattle.handshake_writer.specs.Views.{seen_chain}
 use Rattle.handshake_writer.proofs.chain.CertificateChainWriteMessage.size.Goals as goal

@@ -1,4 +1,4 @@
-use Rattle.std.proofs.Common.{◌≡◌, ◌-◌, ◌%◌, true, length, Some, sym, refl, ap, ◌∙◌, arith}
+use Rattle.std.proofs.Common.{◌≡◌, ◌-◌, ◌%◌, length, refl, ap, ◌∙◌, arith}
 use Rattle.octets.specs.Numbers.{three}
 use Rattle.handshake.specs.Certificates.{certificate_body, from_certificates}
 use Rattle.handshake.specs.Kinds.{certificate_parts}

@@ -1,4 +1,4 @@
-use Rattle.std.proofs.Common.{◌≡◌, arith}
+use Rattle.std.proofs.Common.{arith}
 use Rattle.handshake_writer.proofs.Sizes.{offer_size}
 use Rattle.handshake_writer.proofs.client_offer.ClientOfferWriteMessage.size.Goals as goal
 

@@ -1,6 +1,5 @@
-use Rattle.std.proofs.Common.{◌≡◌, not, length, sym, refl, ap, ◌∙◌}
+use Rattle.std.proofs.Common.{not, sym, refl, ap, ◌∙◌}
 use Rattle.octets.specs.Numbers.{two}
-use Rattle.handshake.specs.Parts.{from_words}
 use Rattle.handshake.specs.Kinds.{client_hello_parts}
 use Rattle.handshake_writer.specs.Views.{seen_offer}
 use Rattle.handshake_writer.proofs.Layings.{laying, then, body_laid}

@@ -1,5 +1,5 @@
-use Rattle.std.proofs.Common.{◌≡◌, ◌+◌, ◌^◌, ◌<◌, ◌≤◌, length, sym, refl, ap, ◌∙◌, arith}
-use Rattle.sm3.proofs.Filling.{run, same}
+use Rattle.std.proofs.Common.{◌+◌, ◌^◌, ◌<◌, ◌≤◌, length, sym, refl, ◌∙◌, arith}
+use Rattle.sm3.proofs.Filling.{same}
 use Rattle.sm3.proofs.Running.{absorb_none}
 use Rattle.sm3.proofs.Updating.{block_more, blocks_all}
 use Rattle.sm3.proofs.hash.Sm3.take_blocks.Goals as goal
