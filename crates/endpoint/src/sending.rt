@@ -4,7 +4,7 @@ ghost use Rattle.model.specs.Deeds.{perform, sends};
 ghost use Rattle.model.specs.Results.{send_yields};
 ghost use Rattle.model.specs.Tlcp.{tlcp};
 ghost use Rattle.end_writer.specs.Kind.{kind_of};
-ghost use Rattle.end_state.specs.View.{view as end-view};
+ghost use Rattle.end_state.specs.View.{view as end_view};
 ghost use Rattle.endpoint.specs.View.{view};
 ghost use Rattle.end_reports.specs.Reports.{done, done_by, seen_by, Kept};
 
@@ -29,7 +29,7 @@ fn write_reading<P: RecordProtection>(
     requires most { length reading.now ≤ 16384 }
     requires fresh { length fresh.now ≡ 16 }
     requires room { length reading.now + 2053 ≤ length out.old }
-    ensures { done_by result (end-view P.RecordProtection.holds end.new) out.new ≡ done (kind_of P.RecordProtection.serves P.RecordProtection.size P.RecordProtection.sealing P.RecordProtection.opening) (perform tlcp (kind_of P.RecordProtection.serves P.RecordProtection.size P.RecordProtection.sealing P.RecordProtection.opening) fresh.now (end-view P.RecordProtection.holds end.old) (sends reading.now)) out.old }
+    ensures { done_by result (end_view P.RecordProtection.holds end.new) out.new ≡ done (kind_of P.RecordProtection.serves P.RecordProtection.size P.RecordProtection.sealing P.RecordProtection.opening) (perform tlcp (kind_of P.RecordProtection.serves P.RecordProtection.size P.RecordProtection.sealing P.RecordProtection.opening) fresh.now (end_view P.RecordProtection.holds end.old) (sends reading.now)) out.old }
 {
     let protected = end.state.writes_protected;
     let number = end.state.writes;

@@ -90,7 +90,7 @@ fn run_step(
     text: &mut String,
 ) -> Result<(), ReplayFault> {
     let name = side.name;
-    let Some(end) = &mut side.end else {
+    let Some(end) = side.end.as_mut() else {
         return Err(ReplayFault::NotSetUp(name));
     };
     let mut out = vec![in heap; FILL; room.out]?;

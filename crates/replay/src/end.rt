@@ -9,8 +9,7 @@ use model::{Question, Refusal};
 use octets::Role;
 use protection::{PairedProtection, RecordProtection};
 use replay_script::{ProtectionKind, StepCall};
-use std::alloc::Global;
-use std::fmt;
+use std::alloc::{AllocError, Global};
 
 /// An end that was set up, by its kind of record protection.
 #[derive(Drop)]
@@ -69,7 +68,12 @@ impl End {
     }
 
     /// Looks at a question, or at the one that is open.
-    pub fn look(&self, name: &str, question: Option<Question>, text: &mut String) -> fmt::Result {
+    pub fn look(
+        &self,
+        name: &str,
+        question: Option<Question>,
+        text: &mut String,
+    ) -> Result<(), AllocError> {
         match self {
             End::Cbc(end) => look_at(end, name, question, text),
             End::Gcm(end) => look_at(end, name, question, text),
@@ -84,7 +88,7 @@ fn look_at<P: RecordProtection>(
     name: &str,
     question: Option<Question>,
     text: &mut String,
-) -> fmt::Result {
+) -> Result<(), AllocError> {
     let stage = end.stage();
     let asked = match question {
         Some(asked) => asked,

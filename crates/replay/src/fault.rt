@@ -42,10 +42,3 @@ impl<T: Drop> From<AllocFailed<T>> for ReplayFault {
         ReplayFault::NoMemory
     }
 }
-
-/// A text grows in memory, so that nothing else can keep it from being written.
-impl From<fmt::Error> for ReplayFault {
-    fn from(_value: fmt::Error) -> ReplayFault {
-        ReplayFault::NoMemory
-    }
-}

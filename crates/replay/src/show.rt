@@ -2,11 +2,11 @@
 use crate::calls::{CallResult, HandedIn};
 use endpoint::Shown;
 use records::{Fault, Layer};
-use std::fmt;
+use std::alloc::AllocError;
 use std::fmt::Write;
 
 /// Octets in hexadecimal, `-` for none.
-fn octets(text: &mut String, list: &[u8]) -> fmt::Result {
+fn octets(text: &mut String, list: &[u8]) -> Result<(), AllocError> {
     if list.is_empty() {
         return write!(text, "-");
     }
@@ -42,7 +42,7 @@ fn layer_name(layer: Layer) -> &'static str {
     }
 }
 
-fn fault(text: &mut String, found: Option<Fault>) -> fmt::Result {
+fn fault(text: &mut String, found: Option<Fault>) -> Result<(), AllocError> {
     match found {
         Some(fault) => {
             let alert = fault.alert.number();
@@ -54,11 +54,17 @@ fn fault(text: &mut String, found: Option<Fault>) -> fmt::Result {
 }
 
 /// What every answer begins with: the end, the call, the refusal and the stage.
-fn head(text: &mut String, end: &str, call: &str, refusal: u8, stage: u8) -> fmt::Result {
+fn head(
+    text: &mut String,
+    end: &str,
+    call: &str,
+    refusal: u8,
+    stage: u8,
+) -> Result<(), AllocError> {
     write!(text, "{end} {call} refusal={refusal} stage={stage}")
 }
 
-fn handed_in(text: &mut String, handed: HandedIn) -> fmt::Result {
+fn handed_in(text: &mut String, handed: HandedIn) -> Result<(), AllocError> {
     let consumed = handed.consumed;
     let released = handed.released;
     let more = if handed.more { 1 } else { 0 };
@@ -66,7 +72,7 @@ fn handed_in(text: &mut String, handed: HandedIn) -> fmt::Result {
 }
 
 /// The output: what was written, and whether the rest is as it was.
-fn output(text: &mut String, out: &[u8], written: usize, fill: u8) -> fmt::Result {
+fn output(text: &mut String, out: &[u8], written: usize, fill: u8) -> Result<(), AllocError> {
     let (front, rest) = divide(out, written);
     write!(text, " out=")?;
     octets(text, front)?;
@@ -79,7 +85,12 @@ fn output(text: &mut String, out: &[u8], written: usize, fill: u8) -> fmt::Resul
 }
 
 /// The opening place: what was released, and what stands behind it.
-fn opening_place(text: &mut String, place: &[u8], released: usize, fill: u8) -> fmt::Result {
+fn opening_place(
+    text: &mut String,
+    place: &[u8],
+    released: usize,
+    fill: u8,
+) -> Result<(), AllocError> {
     let (front, rest) = divide(place, released);
     write!(text, " place=")?;
     octets(text, front)?;
@@ -108,7 +119,7 @@ pub fn answer(
     call: &str,
     done: CallResult,
     places: Places<'_>,
-) -> fmt::Result {
+) -> Result<(), AllocError> {
     head(text, end, call, done.refusal, done.stage)?;
     let written = done.written;
     write!(text, " written={written}")?;
@@ -124,13 +135,13 @@ pub fn answer(
 }
 
 /// The answer to a set-up.
-pub fn set_up(text: &mut String, end: &str, refusal: u8, stage: u8) -> fmt::Result {
+pub fn set_up(text: &mut String, end: &str, refusal: u8, stage: u8) -> Result<(), AllocError> {
     head(text, end, "setup", refusal, stage)?;
     write!(text, " written=0 fault=-")
 }
 
 /// The answer to a look that is refused.
-pub fn no_look(text: &mut String, end: &str, refusal: u8, stage: u8) -> fmt::Result {
+pub fn no_look(text: &mut String, end: &str, refusal: u8, stage: u8) -> Result<(), AllocError> {
     head(text, end, "look", refusal, stage)?;
     write!(text, " question=0")
 }
@@ -142,7 +153,7 @@ pub fn look(
     stage: u8,
     question: u8,
     shown: Shown<'_>,
-) -> fmt::Result {
+) -> Result<(), AllocError> {
     head(text, end, "look", 0, stage)?;
     write!(text, " question={question} gauge=")?;
     octets(text, shown.client_random)?;

@@ -11,4 +11,4 @@ pub returns : goal.returns
 returns g c out =
     let P = kind_of g.P.RecordProtection.serves g.P.RecordProtection.size g.P.RecordProtection.sealing g.P.RecordProtection.opening in
     let e = view g.P.RecordProtection.holds c.args.end.now in
-    still P (writing [] (passed_front c.args.stage (next e.buffered) e)) out refl refl (c.pass-front.ensures.after _)
+    still P (writing [] (passed_front c.args.stage (next e.buffered) e)) out refl refl (c.pass_front.ensures.after _)

@@ -37,14 +37,14 @@ returns-in-ClientChange g c =
     let P = kind_of g.P.RecordProtection.serves g.P.RecordProtection.size g.P.RecordProtection.sealing g.P.RecordProtection.opening in
     let e = view g.P.RecordProtection.holds c.args.end.now in
     effect_done P c.args.fresh.now e c.args.content.now c.args.out.now c.in-ClientChange.is
-    (quiet_done P (perform tlcp P c.args.fresh.now e (effect_deed c.args.content.now ClientChange)) c.args.out.now c.report-in-ClientChange.result (state_view (g.P.RecordProtection.holds c.args.end.now.protection) c.protect-reads.new.self) c.report-in-ClientChange.ensures (c.protect-reads.ensures (g.P.RecordProtection.holds c.args.end.now.protection)) refl refl)
+    (quiet_done P (perform tlcp P c.args.fresh.now e (effect_deed c.args.content.now ClientChange)) c.args.out.now c.report-in-ClientChange.result (state_view (g.P.RecordProtection.holds c.args.end.now.protection) c.protect_reads.new.self) c.report-in-ClientChange.ensures (c.protect_reads.ensures (g.P.RecordProtection.holds c.args.end.now.protection)) refl refl)
 
 pub returns-in-ServerChange : goal.returns-in-ServerChange
 returns-in-ServerChange g c =
     let P = kind_of g.P.RecordProtection.serves g.P.RecordProtection.size g.P.RecordProtection.sealing g.P.RecordProtection.opening in
     let e = view g.P.RecordProtection.holds c.args.end.now in
     effect_done P c.args.fresh.now e c.args.content.now c.args.out.now c.in-ServerChange.is
-    (quiet_done P (perform tlcp P c.args.fresh.now e (effect_deed c.args.content.now ServerChange)) c.args.out.now c.report-in-ServerChange.result (state_view (g.P.RecordProtection.holds c.args.end.now.protection) c.protect-reads-in-ServerChange.new.self) c.report-in-ServerChange.ensures (c.protect-reads-in-ServerChange.ensures (g.P.RecordProtection.holds c.args.end.now.protection)) refl refl)
+    (quiet_done P (perform tlcp P c.args.fresh.now e (effect_deed c.args.content.now ServerChange)) c.args.out.now c.report-in-ServerChange.result (state_view (g.P.RecordProtection.holds c.args.end.now.protection) c.protect_reads-in-ServerChange.new.self) c.report-in-ServerChange.ensures (c.protect_reads-in-ServerChange.ensures (g.P.RecordProtection.holds c.args.end.now.protection)) refl refl)
 
 pub returns-in-Buffer : goal.returns-in-Buffer
 returns-in-Buffer g c =

@@ -38,9 +38,9 @@ returns-in-AwaitClientKeyExchange-ClientKeyExchange c held m xs l =
 pub returns-in-ClientAwaitFinished-Finished : goal.returns-in-ClientAwaitFinished-Finished
 returns-in-ClientAwaitFinished-Finished c held m xs l =
     awaited ClientAwaitFinished Finished (state_view held c.args.state.now) c.args.number m c.args.body.now xs refl c.in-Some.ensures
-    c.in-ClientAwaitFinished-Finished.is-0 c.in-ClientAwaitFinished-Finished.is-1 (c.finish-client.ensures held m xs l)
+    c.in-ClientAwaitFinished-Finished.is-0 c.in-ClientAwaitFinished-Finished.is-1 (c.finish_client.ensures held m xs l)
 
 pub returns-in-ServerAwaitFinished-Finished : goal.returns-in-ServerAwaitFinished-Finished
 returns-in-ServerAwaitFinished-Finished c held m xs l =
     awaited ServerAwaitFinished Finished (state_view held c.args.state.now) c.args.number m c.args.body.now xs refl c.in-Some.ensures
-    c.in-ServerAwaitFinished-Finished.is-0 c.in-ServerAwaitFinished-Finished.is-1 (c.finish-server.ensures held m xs l)
+    c.in-ServerAwaitFinished-Finished.is-0 c.in-ServerAwaitFinished-Finished.is-1 (c.finish_server.ensures held m xs l)

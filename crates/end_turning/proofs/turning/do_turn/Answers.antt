@@ -19,15 +19,15 @@ returns g c =
       | in-Nothing w ↦
           turned_quietly P c.args.fresh.now e c.args.out.now m rest Nothing c.report.result w.in-Nothing.is c.report.ensures (ap (view g.P.RecordProtection.holds) w.end-is) refl refl refl
       | in-TakeClientHello w ↦
-          turned_quietly P c.args.fresh.now e c.args.out.now m rest (TakeClientHello w.in-TakeClientHello.hello) c.report.result w.in-TakeClientHello.is c.report.ensures (ap (view g.P.RecordProtection.holds) w.end-is) (w.take-client-hello.ensures held) refl refl
+          turned_quietly P c.args.fresh.now e c.args.out.now m rest (TakeClientHello w.in-TakeClientHello.hello) c.report.result w.in-TakeClientHello.is c.report.ensures (ap (view g.P.RecordProtection.holds) w.end-is) (w.take_client_hello.ensures held) refl refl
       | in-TakeServerHello w ↦
-          turned_quietly P c.args.fresh.now e c.args.out.now m rest (TakeServerHello w.in-TakeServerHello.hello) c.report.result w.in-TakeServerHello.is c.report.ensures (ap (view g.P.RecordProtection.holds) w.end-is) (w.take-server-hello.ensures held) refl refl
+          turned_quietly P c.args.fresh.now e c.args.out.now m rest (TakeServerHello w.in-TakeServerHello.hello) c.report.result w.in-TakeServerHello.is c.report.ensures (ap (view g.P.RecordProtection.holds) w.end-is) (w.take_server_hello.ensures held) refl refl
       | in-TakeDone w ↦
-          turned_quietly P c.args.fresh.now e c.args.out.now m rest TakeDone c.report.result w.in-TakeDone.is c.report.ensures (ap (view g.P.RecordProtection.holds) w.end-is) (w.take-message-to.ensures held) refl refl
+          turned_quietly P c.args.fresh.now e c.args.out.now m rest TakeDone c.report.result w.in-TakeDone.is c.report.ensures (ap (view g.P.RecordProtection.holds) w.end-is) (w.take_message_to.ensures held) refl refl
       | in-KeepCertificates w ↦
-          turned_quietly P c.args.fresh.now e c.args.out.now m rest KeepCertificates c.report.result w.in-KeepCertificates.is c.report.ensures (ap (view g.P.RecordProtection.holds) w.end-is) (w.go-on.ensures held) refl refl
+          turned_quietly P c.args.fresh.now e c.args.out.now m rest KeepCertificates c.report.result w.in-KeepCertificates.is c.report.ensures (ap (view g.P.RecordProtection.holds) w.end-is) (w.go_on.ensures held) refl refl
       | in-KeepSignature w ↦
-          turned_quietly P c.args.fresh.now e c.args.out.now m rest KeepSignature c.report.result w.in-KeepSignature.is c.report.ensures (ap (view g.P.RecordProtection.holds) w.end-is) (w.go-on-in-KeepSignature.ensures held) refl refl
+          turned_quietly P c.args.fresh.now e c.args.out.now m rest KeepSignature c.report.result w.in-KeepSignature.is c.report.ensures (ap (view g.P.RecordProtection.holds) w.end-is) (w.go_on-in-KeepSignature.ensures held) refl refl
       | in-KeepWrapped w ↦
-          turned_quietly P c.args.fresh.now e c.args.out.now m rest KeepWrapped c.report.result w.in-KeepWrapped.is c.report.ensures (ap (view g.P.RecordProtection.holds) w.end-is) (w.go-on-in-KeepWrapped.ensures held) refl refl
+          turned_quietly P c.args.fresh.now e c.args.out.now m rest KeepWrapped c.report.result w.in-KeepWrapped.is c.report.ensures (ap (view g.P.RecordProtection.holds) w.end-is) (w.go_on-in-KeepWrapped.ensures held) refl refl
     ]

@@ -12,9 +12,9 @@ returns g c =
     let P = kind_of g.P.RecordProtection.serves g.P.RecordProtection.size g.P.RecordProtection.sealing g.P.RecordProtection.opening in
     let e = view g.P.RecordProtection.holds c.args.end.now in
     let held = g.P.RecordProtection.holds c.args.end.now.protection in
-    server_opened P c.args.fresh.now c.args.out.now e (take c.args.size (buffer_view c.args.end.now.state.buffer)) c.verify-data-verify-data.result
-    (hash-view c.join-front.new.transcript) (hash-view c.write-finished-written.new.transcript) c.write-change-at.result c.write-finished-written.result
-    c.write-change-at.new.out c.write-finished-written.new.out
-    c.join-front.ensures c.verify-data-verify-data.ensures c.write-change-at.ensures.end c.write-change-at.ensures.after
-    c.write-finished-written.ensures.end c.write-finished-written.ensures.after c.write-finished-written.ensures.joined
-    (c.protect-writes.ensures held ∙ ap (with_out true 1) (c.open.ensures held))
+    server_opened P c.args.fresh.now c.args.out.now e (take c.args.size (buffer_view c.args.end.now.state.buffer)) c.verify_data-verify_data.result
+    (hash-view c.join_front.new.transcript) (hash-view c.write_finished-written.new.transcript) c.write_change-at.result c.write_finished-written.result
+    c.write_change-at.new.out c.write_finished-written.new.out
+    c.join_front.ensures c.verify_data-verify_data.ensures c.write_change-at.ensures.end c.write_change-at.ensures.after
+    c.write_finished-written.ensures.end c.write_finished-written.ensures.after c.write_finished-written.ensures.joined
+    (c.protect_writes.ensures held ∙ ap (with_out true 1) (c.open.ensures held))

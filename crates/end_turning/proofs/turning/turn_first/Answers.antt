@@ -16,7 +16,7 @@ returns-in-Ok g c =
     let e = view g.P.RecordProtection.holds c.args.end.now in
     let held = g.P.RecordProtection.holds c.args.end.now.protection in
     let xs = buffer_view c.args.end.now.state.buffer in
-    judged_done P c.args.fresh.now e c.args.out.now (turned tlcp e (next xs)) (front_deed xs c.in-Ok.turn) (c.in-Ok.ensures.deed held) c.do-turn.ensures
+    judged_done P c.args.fresh.now e c.args.out.now (turned tlcp e (next xs)) (front_deed xs c.in-Ok.turn) (c.in-Ok.ensures.deed held) c.do_turn.ensures
 
 pub returns-in-Err : goal.returns-in-Err
 returns-in-Err g c =

@@ -7,11 +7,11 @@ use Rattle.end_writer.proofs.flight.write_server_flight.Goals as goal
 pub returns : goal.returns
 returns c =
     let p =
-    then (placed c.write-server-hello-end.ensures.end c.write-server-hello-end.ensures.after)
-    (then (placed c.write-certificate-end.ensures.end c.write-certificate-end.ensures.after)
-    (then (placed c.write-server-key-exchange-end.ensures.end c.write-server-key-exchange-end.ensures.after)
-    (last (placed c.write-server-hello-done.ensures.end c.write-server-hello-done.ensures.after)))) in
-    let j = c.write-server-hello-end.ensures.joined in
-    let k = c.write-certificate-end.ensures.joined ∙ ap (λ h. absorb h (certificate (map (λ x. x.now) c.args.certificates.now))) j in
-    let l = c.write-server-key-exchange-end.ensures.joined ∙ ap (λ h. absorb h (server_key_exchange c.args.signature.now)) k in
-    record { end = first_end p; after = p.after; joined = c.write-server-hello-done.ensures.joined ∙ ap (λ h. absorb h server_hello_done) l }
+    then (placed c.write_server_hello-end.ensures.end c.write_server_hello-end.ensures.after)
+    (then (placed c.write_certificate-end.ensures.end c.write_certificate-end.ensures.after)
+    (then (placed c.write_server_key_exchange-end.ensures.end c.write_server_key_exchange-end.ensures.after)
+    (last (placed c.write_server_hello_done.ensures.end c.write_server_hello_done.ensures.after)))) in
+    let j = c.write_server_hello-end.ensures.joined in
+    let k = c.write_certificate-end.ensures.joined ∙ ap (λ h. absorb h (certificate (map (λ x. x.now) c.args.certificates.now))) j in
+    let l = c.write_server_key_exchange-end.ensures.joined ∙ ap (λ h. absorb h (server_key_exchange c.args.signature.now)) k in
+    record { end = first_end p; after = p.after; joined = c.write_server_hello_done.ensures.joined ∙ ap (λ h. absorb h server_hello_done) l }

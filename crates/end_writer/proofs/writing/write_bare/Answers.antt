@@ -6,6 +6,6 @@ returns c =
     let o = c.args.out.now in
     let x = c.args.content.now in
     record {
-      end = bare_end o x c.args.at c.args.kind c.requires.most c.requires.room c.write-record.ensures.end c.unwrap-or.ensures;
-      after = bare_after o x c.args.at c.args.kind c.requires.most c.requires.room c.write-record.ensures.after;
+      end = bare_end o x c.args.at c.args.kind c.requires.most c.requires.room c.write_record.ensures.end c.unwrap_or.ensures;
+      after = bare_after o x c.args.at c.args.kind c.requires.most c.requires.room c.write_record.ensures.after;
     }

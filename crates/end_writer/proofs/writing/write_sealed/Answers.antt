@@ -14,6 +14,6 @@ returns g c =
     let m = a + 5 + length x + 2048 - (a + 5) in
     let both = sealed_record P held c.args.number c.args.kind x f o a m
     c.requires.least c.requires.most c.requires.fresh c.requires.room (omega arith)
-    c.seal-sealed.ensures.answer c.seal-sealed.ensures.after (omega arith) c.unwrap-or-n.ensures
-    c.write-header.ensures.after c.write-header.ensures.end c.unwrap-or.ensures in
+    c.seal-sealed.ensures.answer c.seal-sealed.ensures.after (omega arith) c.unwrap_or-n.ensures
+    c.write_header.ensures.after c.write_header.ensures.end c.unwrap_or.ensures in
     record { end = both.0; after = both.1 }

@@ -18,6 +18,6 @@ returns g c =
     let e = view g.P.RecordProtection.holds c.args.end.now in
     let x = c.args.reading.now in
     let f = c.args.fresh.now in
-    let r : Report = record { stage = c.count-record.new.self.stage; written = c.write-one-written.result; fault = None } in
-    one_written P (perform tlcp P f e (sends x)) c.args.out.now (put f e data_kind x) r (state_view h c.count-record.new.self) c.write-one-written.new.out
-    refl (c.count-record.ensures h) refl (ap (λ (u : End Running). u.stage) (c.count-record.ensures h)) (search rules) (search rules)
+    let r : Report = record { stage = c.count_record.new.self.stage; written = c.write_one-written.result; fault = None } in
+    one_written P (perform tlcp P f e (sends x)) c.args.out.now (put f e data_kind x) r (state_view h c.count_record.new.self) c.write_one-written.new.out
+    refl (c.count_record.ensures h) refl (ap (λ (u : End Running). u.stage) (c.count_record.ensures h)) (search rules) (search rules)

@@ -4,4 +4,4 @@ use Rattle.end_state.proofs.state.State.key.Goals as goal
 
 pub returns : goal.returns
 unfolding no_keys
-returns g c = simp (c.make-keys.ensures.held, c.make-keys.ensures.master, c.make-keys.ensures.premaster, c.make-keys.ensures.material)
+returns g c = simp (c.make_keys.ensures.held, c.make_keys.ensures.master, c.make_keys.ensures.premaster, c.make_keys.ensures.material)

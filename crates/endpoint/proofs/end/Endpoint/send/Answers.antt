@@ -12,4 +12,4 @@ returns-in-Some g c =
 pub returns-in-None : goal.returns-in-None
 returns-in-None g c =
     let P = kind_of g.P.RecordProtection.serves g.P.RecordProtection.size g.P.RecordProtection.sealing g.P.RecordProtection.opening in
-    record { yields = send_accepted P (view g.P.RecordProtection.holds c.args.self.now) c.args.reading.now c.args.fresh.now c.args.out.now (sym c.send_refusal.ensures ∙ c.in-None.is) c.write-reading.ensures; kept = tt }
+    record { yields = send_accepted P (view g.P.RecordProtection.holds c.args.self.now) c.args.reading.now c.args.fresh.now c.args.out.now (sym c.send_refusal.ensures ∙ c.in-None.is) c.write_reading.ensures; kept = tt }

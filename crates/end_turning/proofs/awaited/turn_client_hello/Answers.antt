@@ -1,0 +1,9 @@
+use Rattle.std.proofs.Common.{rules, Option, List, ℕ}
+use Rattle.model.proofs.Alone.{on_client_hello_alone}
+use Rattle.end_turning.proofs.awaited.turn_client_hello.Goals as goal
+
+pub returns-in_err-hello : goal.returns-in_err-hello
+returns-in_err-hello c = λ held m xs. rw on_client_hello_alone (search rules)
+
+pub returns : goal.returns
+returns c = λ held m xs. rw on_client_hello_alone (search rules)
