@@ -1,5 +1,5 @@
 ghost use Rattle.std.specs.Prelude.{◌≡◌, ℕ, ◌^◌, ◌<◌, length, replicate};
-ghost use Rattle.cbc_protection.specs.Layout.{key_of, mac, heading as heading-of};
+ghost use Rattle.cbc_protection.specs.Layout.{key_of, mac, heading as heading_of};
 
 use hmac_sm3::Hmac;
 use octets::{Role, eight_octets, two_octets};
@@ -38,7 +38,7 @@ pub fn key(sender: Role, material: &[u8]) -> [u8; 16]
 /// What the MAC takes in before a content.
 fn heading(number: u64, kind: u8, size: usize) -> [u8; 13]
     requires { size < 2 ^ 16 }
-    ensures { result ≡ heading-of number kind size }
+    ensures { result ≡ heading_of number kind size }
 {
     let [a, b, c, d, e, f, g, h] = eight_octets(number);
     let [high, low] = two_octets(size as u16);

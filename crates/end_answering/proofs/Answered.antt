@@ -1,6 +1,6 @@
 -- What an accepted answer has done, from what its parts have done.
-use Rattle.std.proofs.Common.{◌≡◌, ℕ, ◌+◌, ◌-◌, ◌≤◌, min, Bool, true, false, cond, not, ◌&&◌, ◌||◌, eqb, leb, ◌⊎◌, List, [], ◌∷◌, ◌++◌, length, is_some, Some, None, Ok, Err, Option, unwrap_or, sym, refl, ap, ◌∙◌, inl, inr, arith}
-use Rattle.std.proofs.lemmas.Bool.{cases_Bool, true≢false, leb-true, le-leb, eqb-true, and_parts, and_from, or_cases, or_left, or_right, not-false, cond_both}
+use Rattle.std.proofs.Common.{◌≡◌, ℕ, ◌≤◌, Bool, true, false, cond, not, ◌&&◌, ◌||◌, eqb, leb, ◌⊎◌, List, [], ◌∷◌, length, is_some, Some, None, Err, Option, unwrap_or, sym, refl, ap, ◌∙◌, inl, inr, arith}
+use Rattle.std.proofs.lemmas.Bool.{true≢false, leb-true, le-leb, eqb-true, and_parts, and_from, or_cases, or_left, or_right, not-false, cond_both}
 use Rattle.octets.specs.Laid.{laid}
 use Rattle.octets.proofs.Lays.{none_laid}
 use Rattle.records.specs.declared.fault.Alert.{Alert}

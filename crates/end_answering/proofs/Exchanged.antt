@@ -1,5 +1,5 @@
 -- The client's exchange of the premaster: its three records and the end after them.
-use Rattle.std.proofs.Common.{◌≡◌, ℕ, ◌+◌, ◌≤◌, true, List, [], ◌∷◌, ◌++◌, length, None, sym, refl, ap, ◌∙◌, arith}
+use Rattle.std.proofs.Common.{◌≡◌, ℕ, ◌≤◌, true, List, [], ◌∷◌, ◌++◌, length, None, refl, ap, ◌∙◌, arith}
 use Rattle.octets.specs.declared.role.Role.TheVariants.{Client}
 use Rattle.octets.specs.Laid.{laid}
 use Rattle.records.specs.Kinds.{handshake_kind, change_kind}

@@ -1,5 +1,5 @@
 -- What a call yields: refused, or by what it has done.
-use Rattle.std.proofs.Common.{◌≡◌, ℕ, Bool, true, false, List, [], ◌∷◌, ◌++◌, length, Some, None, Ok, Err, Option, Result, sym, refl, ap, ◌∙◌, append-nil, zero-le}
+use Rattle.std.proofs.Common.{◌≡◌, ℕ, false, List, [], ◌∷◌, length, Some, None, Ok, Err, sym, refl, ap, ◌∙◌, append-nil, zero-le}
 use Rattle.octets.specs.Laid.{laid}
 use Rattle.octets.proofs.Lays.{laid_first}
 use Rattle.sm3.specs.Hash.{Running}
@@ -9,14 +9,14 @@ use Rattle.model.specs.Endpoint.{End, close, hand_in, send}
 use Rattle.std.specs.Option.{option_map}
 use Rattle.model.specs.Outcomes.{Write, Outcome, consuming, octets, flat}
 use Rattle.model.specs.Deeds.{perform, closes, sends}
-use Rattle.model.proofs.Accepting.{refused_as, acted_as, act_accepted}
+use Rattle.model.proofs.Accepting.{refused_as, acted_as}
 use Rattle.model.specs.Steps.{taken}
 use Rattle.records.specs.Records.{received, limit_of}
 use Rattle.model.specs.Refusals.{close_refusal, hand_in_refusal, send_refusal, message_ready}
 use Rattle.model.specs.Results.{Seen, seen, close_yields, hand_in_yields, send_yields}
 use Rattle.model.specs.Tlcp.{tlcp}
 use Rattle.end_reports.specs.declared.report.Report.{Report}
-use Rattle.end_reports.specs.Reports.{Done, done, done_by, seen_by, seen_by_hand_in, told_by, fault_told, quiet}
+use Rattle.end_reports.specs.Reports.{Done, done, done_by, seen_by, seen_by_hand_in, fault_told, quiet}
 
 -- ---- what was done and released nothing, as it is seen
 pub record Plain (o : Outcome Running) : Type 0 where

@@ -1,5 +1,5 @@
 -- What the code's reports tell, in the terms of the definitions.
-use Rattle.std.specs.Prelude.{◌≡◌, ℕ, Bool, true, false, List, [], length, None, Ok, Err, Option, Result}
+use Rattle.std.specs.Prelude.{◌≡◌, ℕ, true, false, List, [], length, None, Ok, Err, Option, Result}
 use Rattle.std.specs.Option.{option_map}
 use Rattle.octets.specs.Laid.{laid}
 use Rattle.records.specs.declared.fault.Fault.{Fault as Found}

@@ -1,5 +1,5 @@
 -- The message at the front of the buffer: whether it is all there, and the end once it has left.
-use Rattle.std.specs.Prelude.{Bool, true, false, List, [], ◌∷◌}
+use Rattle.std.specs.Prelude.{Bool, true, false, [], ◌∷◌}
 use Rattle.sm3.specs.Hash.{Running}
 use Rattle.handshake.specs.Frames.{Next, not_ready, too_long, ready}
 use Rattle.model.specs.declared.stage.Stage.{Stage}

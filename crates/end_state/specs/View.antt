@@ -1,7 +1,7 @@
 -- What a state of the code stands for.
 use Rattle.std.specs.Prelude.{ℕ, List, ◌++◌, take, Option}
 use Rattle.sm3.specs.Hash.{Running}
-use Rattle.sm3.specs.View.{view as hash-view}
+use Rattle.sm3.specs.View.{view as hash_view}
 use Rattle.protection.specs.Keys.{Keying}
 use Rattle.model.specs.Endpoint.{End}
 use Rattle.end_state.specs.declared.state.HandshakeBuffer.{HandshakeBuffer}
@@ -24,7 +24,7 @@ keys_view k = k.premaster ++ k.material
 
 -- the state, with what the protection holds; only octets behind the buffer's length are left out
 abbrev pub state_view : Option Keying → State → End Running
-state_view held s = record { role = s.role; stage = s.stage; suites = suites_view s.suites; protection = held; client_random = s.client_random; server_random = s.server_random; suite = s.suite; master = s.master; transcript = hash-view s.transcript; scratch = keys_view s.keys; reads = s.reads; writes = s.writes; reads_protected = s.reads_protected; writes_protected = s.writes_protected; buffered = buffer_view s.buffer }
+state_view held s = record { role = s.role; stage = s.stage; suites = suites_view s.suites; protection = held; client_random = s.client_random; server_random = s.server_random; suite = s.suite; master = s.master; transcript = hash_view s.transcript; scratch = keys_view s.keys; reads = s.reads; writes = s.writes; reads_protected = s.reads_protected; writes_protected = s.writes_protected; buffered = buffer_view s.buffer }
 
 -- an end: its state with what its protection holds
 abbrev pub view : {P : Type 0} → (P → Option Keying) → LineEnd P → End Running

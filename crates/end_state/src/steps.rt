@@ -9,7 +9,7 @@ ghost use Rattle.model.specs.Deeds.{hearing};
 ghost use Rattle.model.specs.Tlcp.{tlcp};
 ghost use Rattle.key_schedule.specs.Schedule.{verify_data};
 ghost use Rattle.sm3.specs.Hash.{absorb, finished};
-ghost use Rattle.sm3.specs.View.{view as hash-view};
+ghost use Rattle.sm3.specs.View.{view as hash_view};
 ghost use Rattle.end_state.specs.View.{state_view, buffer_view};
 
 use crate::state::{HandshakeBuffer, KeyScratch, State, SuiteList};
@@ -35,7 +35,7 @@ fn first_stage(role: Role) -> Stage
 /// The first `size` octets of the buffer join the transcript.
 pub fn join_front(transcript: &mut Sm3, buffer: &HandshakeBuffer, size: usize)
     requires { size ≤ buffer.now.len }
-    ensures { hash-view transcript.new ≡ absorb (hash-view transcript.old) (take size (buffer_view buffer.now)) }
+    ensures { hash_view transcript.new ≡ absorb (hash_view transcript.old) (take size (buffer_view buffer.now)) }
 {
     transcript.update(buffer.front(size));
 }
@@ -195,7 +195,7 @@ impl State {
 
     /// The check value of a sender over the messages so far.
     pub fn verify_data(&self, sender: Role) -> [u8; 12]
-        ensures { result ≡ verify_data self.now.master sender (finished (hash-view self.now.transcript)) }
+        ensures { result ≡ verify_data self.now.master sender (finished (hash_view self.now.transcript)) }
     {
         verify_data(&self.master, sender, &self.transcript.digest())
     }

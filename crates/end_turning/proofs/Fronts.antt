@@ -1,11 +1,11 @@
 -- The first message of the buffer, as it is judged and as it is defined.
-use Rattle.std.proofs.Common.{◌≡◌, ℕ, ◌+◌, ◌-◌, ◌≤◌, min, List, ◌++◌, length, take, drop, Result, sym, refl, ap, ◌∙◌, arith, length-drop, length-take, drop-drop, take-add}
+use Rattle.std.proofs.Common.{◌≡◌, ℕ, ◌+◌, ◌-◌, ◌≤◌, min, List, ◌++◌, length, take, drop, Result, sym, ap, ◌∙◌, arith, length-drop, length-take, drop-drop, take-add}
 use Rattle.records.specs.declared.fault.Fault.{Fault}
 use Rattle.sm3.specs.Hash.{Running}
 use Rattle.handshake.specs.Frames.{next, ready}
 use Rattle.handshake_reader.specs.declared.frames.FirstMessage.TheVariants.{Ready}
 use Rattle.handshake_reader.specs.Views.{first_of}
-use Rattle.handshake_reader.proofs.Framing.{Stands, ready_stands}
+use Rattle.handshake_reader.proofs.Framing.{ready_stands}
 use Rattle.model.specs.Endpoint.{End}
 use Rattle.model.specs.Turns.{turned}
 use Rattle.model.specs.Tlcp.{tlcp}

@@ -1,5 +1,5 @@
 -- A message of the type that the stage awaits, as it is judged and as it is defined.
-use Rattle.std.proofs.Common.{◌≡◌, ℕ, Bool, true, cond, eqb, List, Some, sym, refl, ap, ◌∙◌, arith}
+use Rattle.std.proofs.Common.{◌≡◌, ℕ, true, cond, eqb, List, Some, sym, ap, ◌∙◌, arith}
 use Rattle.records.specs.declared.fault.Layer.TheVariants.{Stage as AtStage}
 use Rattle.handshake.specs.declared.types.HandshakeType.{HandshakeType}
 use Rattle.handshake.specs.declared.types.HandshakeType.TheVariants.{ClientHello, ServerHello, Certificate, ServerKeyExchange, ServerHelloDone, ClientKeyExchange, Finished}

@@ -1,5 +1,5 @@
 -- A turn done: as it is judged, as it is seen, and as a call.
-use Rattle.std.proofs.Common.{◌≡◌, ℕ, Bool, true, false, List, [], length, Some, None, Err, sym, refl, ap, ◌∙◌}
+use Rattle.std.proofs.Common.{◌≡◌, ℕ, Bool, true, List, [], length, Some, None, Err, sym, refl, ap, ◌∙◌}
 use Rattle.sm3.specs.Hash.{Running}
 use Rattle.handshake.specs.Frames.{next}
 use Rattle.model.specs.declared.refusal.Refusal.{Refusal}

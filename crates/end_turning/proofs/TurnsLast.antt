@@ -1,5 +1,5 @@
 -- The last message turned: the ends open.
-use Rattle.std.proofs.Common.{◌≡◌, ℕ, ◌+◌, true, List, [], ◌∷◌, ◌++◌, length, None, sym, refl, ap, ◌∙◌}
+use Rattle.std.proofs.Common.{◌≡◌, ℕ, ◌+◌, true, List, [], ◌∷◌, length, None, refl, ap, ◌∙◌}
 use Rattle.octets.specs.declared.role.Role.TheVariants.{Server}
 use Rattle.octets.specs.Laid.{laid}
 use Rattle.records.specs.Kinds.{change_kind, handshake_kind}

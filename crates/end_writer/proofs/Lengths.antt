@@ -1,5 +1,5 @@
 -- The messages that ends write can be written, and are short.
-use Rattle.std.proofs.Common.{◌≡◌, ℕ, ◌≤◌, true, false, List, [], ◌∷◌, length, sym, arith}
+use Rattle.std.proofs.Common.{◌≡◌, ℕ, ◌≤◌, true, List, [], ◌∷◌, length, sym, arith}
 use Rattle.std.proofs.lemmas.Bool.{le-leb, leb-true, and_from, and_parts, true≢false}
 use Rattle.handshake.specs.Hellos.{client_offer, server_answer}
 use Rattle.handshake.specs.Exchanges.{exchange_body}

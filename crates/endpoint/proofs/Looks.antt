@@ -1,9 +1,9 @@
 -- The parts of a Certificate: how many there are, and each by its place.
-use Rattle.std.proofs.Common.{◌≡◌, ℕ, zero, suc, ◌+◌, List, [], ◌∷◌, length, Some, None, sym, refl, ap, ◌∙◌, arith}
+use Rattle.std.proofs.Common.{◌≡◌, ℕ, zero, suc, ◌+◌, List, [], ◌∷◌, length, Some, None, refl, ap, ◌∙◌, arith}
 use Rattle.std.specs.List.{slice_get}
 use Rattle.handshake.specs.declared.spans.Span.{Span}
 use Rattle.handshake.specs.Places.{spans}
-use Rattle.model.specs.Results.{Part, parts_from}
+use Rattle.model.specs.Results.{parts_from}
 
 pub parts_counted : (at : ℕ) (cs : List (List ℕ)) → length (parts_from at cs) ≡ length cs
 parts_counted at [] = refl

@@ -6,7 +6,7 @@ use Rattle.protection.specs.Keys.{Keying}
 use Rattle.model.specs.declared.refusal.Refusal.{Refusal}
 use Rattle.model.specs.Endpoint.{End, new_end}
 use Rattle.model.specs.Refusals.{set_up_refusal}
-use Rattle.model.specs.Results.{Made, made, given_back, made_as, set_up_yields}
+use Rattle.model.specs.Results.{made, given_back, made_as, set_up_yields}
 use Rattle.model.specs.Tlcp.{tlcp}
 
 module _ (serves : ℕ → Bool) (X : Role) (held : Option Keying) (ss : List ℕ) where

@@ -33,7 +33,8 @@ impl<'a> ClientHello<'a> {
     {
         let compressions = self.compressions;
         for compression in compressions {
-            if *compression == NULL_COMPRESSION {
+            let is_null = *compression == NULL_COMPRESSION;
+            if is_null {
                 return true;
             }
         }

@@ -12,7 +12,6 @@ use Rattle.handshake.specs.Frames.{next}
 use Rattle.model.specs.declared.question.Question.{Question}
 use Rattle.model.specs.declared.refusal.Refusal.{Refusal}
 use Rattle.model.specs.Limits.{read_limit}
-use Rattle.model.specs.Messages.{finished}
 use Rattle.model.specs.Schedule.{Schedule}
 use Rattle.model.specs.Protections.{Protection, opened_with}
 use Rattle.model.specs.Endpoint.{End, Call, hand_in, turn, answer, look, send, close, with_in}

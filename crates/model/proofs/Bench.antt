@@ -1,25 +1,24 @@
 -- The pieces for the bench: each hand in is accepted, its record read by computation, and its result read off.
-use Rattle.std.proofs.Common.{◌≡◌, ℕ, ◌+◌, ◌-◌, ◌≤◌, min, Bool, true, false, cond, ◌&&◌, eqb, leb, List, [], ◌∷◌, ◌++◌, length, Some, None, Ok, Option, sym, refl, ap, ◌∙◌, ap₂, append-nil, arith}
+use Rattle.std.proofs.Common.{◌≡◌, ℕ, ◌-◌, true, false, leb, List, [], ◌∷◌, length, None, sym, refl, ap, ◌∙◌, append-nil, arith}
 use Rattle.octets.specs.Laid.{laid}
 use Rattle.octets.proofs.Lays.{none_laid}
 use Rattle.records.specs.declared.fault.Layer.{Layer}
 use Rattle.records.specs.declared.fault.Layer.TheVariants.{Record as AtRecord, Content as AtContent}
 use Rattle.records.specs.Records.{received, limit_of}
 use Rattle.records.specs.Kinds.{alert_kind}
-use Rattle.protection.specs.Limits.{fresh_size}
 use Rattle.handshake.specs.Frames.{next, is_ready}
-use Rattle.model.specs.declared.stage.Stage.TheVariants.{AwaitClientKeyExchange, ServerAwaitChange, ServerAwaitFinished, Dead}
+use Rattle.model.specs.declared.stage.Stage.TheVariants.{ServerAwaitFinished}
 use Rattle.model.specs.Limits.{reply_space, place_space}
 use Rattle.model.specs.Schedule.{Schedule}
 use Rattle.model.specs.Protections.{Protection}
-use Rattle.model.specs.Endpoint.{End, hand_in, with_stage, with_in, numbered, gone}
-use Rattle.model.specs.Outcomes.{Outcome, octets, put, writing, faulting, consuming, wanting}
+use Rattle.model.specs.Endpoint.{End, hand_in, with_stage, with_in}
+use Rattle.model.specs.Outcomes.{Outcome, octets, put, writing, consuming, wanting}
 use Rattle.model.specs.Deeds.{alerting, raises, perform}
 use Rattle.model.specs.Refusals.{refusal, message_ready}
-use Rattle.model.specs.Steps.{step, taken}
-use Rattle.model.specs.Results.{Seen, zeros, seen, hand_in_yields}
+use Rattle.model.specs.Steps.{taken}
+use Rattle.model.specs.Results.{zeros, seen, hand_in_yields}
 use Rattle.model.specs.Bench.{TakesRecords, Enough, wants_more, quietly, with_alert, Bench}
-use Rattle.model.proofs.ReadBack.{leb_is, eqb_is}
+use Rattle.model.proofs.ReadBack.{leb_is}
 use Rattle.model.proofs.Accepting.{acted_as}
 
 none_out : (out : List ℕ) → laid out 0 [] ≡ out

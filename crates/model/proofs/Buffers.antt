@@ -9,7 +9,7 @@ use Rattle.model.specs.Stages.{is_open, over}
 use Rattle.model.specs.Schedule.{Schedule, ScheduleLaws, joined_octets}
 use Rattle.model.specs.Protections.{Protection}
 use Rattle.model.specs.Endpoint.{End, Call}
-use Rattle.model.specs.Outcomes.{Protected, under}
+use Rattle.model.specs.Outcomes.{Protected}
 use Rattle.model.specs.Deeds.{Deed, waits, halts, closes, raises, client_changes, server_changes, buffers, releases, takes_client_hello, takes_server_hello, takes_done, keeps_certificates, keeps_signature, keeps_wrapped, fails_check, client_opens, server_opens, greets, offers, trusts_certificates, trusts_signature, exchanges, unwraps, sends, perform}
 use Rattle.model.specs.Contents.{on_change, is_one, on_alert, on_kind, on_content}
 use Rattle.model.specs.Steps.{step}
@@ -17,7 +17,6 @@ use Rattle.model.proofs.Fronts.{never}
 use Rattle.model.proofs.Fits.{Fits, handed, pair_by}
 use Rattle.model.proofs.Ways.{one_read, opened_as, step_by}
 use Rattle.model.proofs.Local.{Sound, at, reads, sound_read}
-use Rattle.model.proofs.Readings.{opened}
 use Rattle.model.proofs.History.{spoken, spoken-++}
 use Rattle.model.proofs.Openings.{said_by}
 

@@ -4,7 +4,7 @@ use Rattle.octets.specs.declared.role.Role.{Role}
 use Rattle.octets.specs.declared.role.Role.TheVariants.{Client, Server}
 use Rattle.octets.specs.Octets.{Octets}
 use Rattle.records.specs.Kinds.{change_kind, handshake_kind, data_kind}
-use Rattle.records.specs.Records.{framed, more, limit_of}
+use Rattle.records.specs.Records.{framed, limit_of}
 use Rattle.handshake.specs.Frames.{is_ready}
 use Rattle.handshake.specs.Hellos.{client_hello_body, server_hello_body}
 use Rattle.handshake.specs.Certificates.{certificate_body}

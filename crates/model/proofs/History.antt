@@ -3,7 +3,6 @@ use Rattle.std.proofs.Common.{◌≡◌, ℕ, ◌≤◌, Bool, true, false, List
 use Rattle.octets.specs.declared.role.Role.{Role}
 use Rattle.octets.specs.declared.role.Role.TheVariants.{Client, Server}
 use Rattle.records.specs.Kinds.{alert_kind, handshake_kind, data_kind}
-use Rattle.records.specs.Records.{more}
 use Rattle.handshake.specs.Hellos.{read_client_hello, read_server_hello}
 use Rattle.model.specs.declared.stage.Stage.{Stage}
 use Rattle.model.specs.declared.stage.Stage.TheVariants.{AskClientRandom, AwaitServerHello, AwaitCertificate, AskCertificates, AwaitServerKeyExchange, AskSignature, AwaitServerHelloDone, AskWrapping, ClientAwaitChange, ClientAwaitFinished, AwaitClientHello, AskServerFlight, AwaitClientKeyExchange, AskUnwrapping, ServerAwaitChange, ServerAwaitFinished, Open, Closed, Dead}

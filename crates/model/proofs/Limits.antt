@@ -6,7 +6,6 @@ use Rattle.model.specs.Limits.{buffer_size, send_limit, read_limit}
 use Rattle.model.specs.Schedule.{Schedule}
 use Rattle.model.specs.Protections.{Protection}
 use Rattle.model.specs.Endpoint.{End, Call}
-use Rattle.model.specs.Outcomes.{under}
 use Rattle.model.specs.Deeds.{Deed, waits, halts, closes, raises, client_changes, server_changes, buffers, releases, takes_client_hello, takes_server_hello, takes_done, keeps_certificates, keeps_signature, keeps_wrapped, fails_check, client_opens, server_opens, greets, offers, trusts_certificates, trusts_signature, exchanges, unwraps, sends, perform}
 use Rattle.model.specs.Refusals.{message_ready}
 use Rattle.model.specs.Contents.{on_content}
@@ -15,7 +14,6 @@ use Rattle.model.specs.EndLaws.{InLimits}
 use Rattle.model.proofs.Fronts.{never}
 use Rattle.model.proofs.Fits.{Fits, handed}
 use Rattle.model.proofs.Ways.{one_read, step_by}
-use Rattle.model.proofs.Local.{reads}
 
 pub unready_short : (xs : List ℕ) → is_ready (next xs) ≡ false → length xs ≤ 4095
 unready_short [] q = lit≤ tt

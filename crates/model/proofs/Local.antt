@@ -10,7 +10,7 @@ use Rattle.model.specs.Stages.{is_open, over}
 use Rattle.model.specs.Schedule.{Schedule}
 use Rattle.model.specs.Protections.{Protection}
 use Rattle.model.specs.Endpoint.{End, Call}
-use Rattle.model.specs.Outcomes.{under, Outcome, put, consuming, noting}
+use Rattle.model.specs.Outcomes.{Outcome, put, consuming, noting}
 use Rattle.model.specs.Deeds.{Deed, waits, halts, closes, raises, client_changes, server_changes, buffers, releases, takes_client_hello, takes_server_hello, takes_done, keeps_certificates, keeps_signature, keeps_wrapped, fails_check, client_opens, server_opens, greets, offers, trusts_certificates, trusts_signature, exchanges, unwraps, sends, alerting, perform}
 use Rattle.model.specs.Contents.{on_change, is_one, on_alert, on_kind, on_content}
 use Rattle.model.specs.Steps.{step}

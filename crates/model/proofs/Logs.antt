@@ -5,7 +5,6 @@ use mathlib.Core.List.{Memᴰ}
 use Rattle.octets.specs.declared.role.Role.{Role}
 use Rattle.octets.specs.declared.role.Role.TheVariants.{Client, Server}
 use Rattle.octets.specs.Roles.{peer}
-use Rattle.model.specs.Messages.{finished}
 use Rattle.model.specs.Schedule.{Schedule}
 use Rattle.model.specs.Outcomes.{Outcome}
 use Rattle.model.specs.Runs.{Check, secret, Past, checks_of}

@@ -13,7 +13,7 @@ use Rattle.model.specs.Limits.{read_limit}
 use Rattle.model.specs.Schedule.{Schedule}
 use Rattle.model.specs.Protections.{Protection, opened_with}
 use Rattle.model.specs.Endpoint.{End, Call, hand_in, turn, answer, look, send, close}
-use Rattle.model.specs.Outcomes.{under, Outcome, refusing}
+use Rattle.model.specs.Outcomes.{Outcome, refusing}
 use Rattle.model.specs.Deeds.{Deed, waits, halts, closes, raises, client_changes, server_changes, buffers, releases, takes_client_hello, takes_server_hello, takes_done, keeps_certificates, keeps_signature, keeps_wrapped, fails_check, client_opens, server_opens, greets, offers, trusts_certificates, trusts_signature, exchanges, unwraps, sends, perform}
 use Rattle.model.specs.Refusals.{refusal}
 use Rattle.model.specs.Contents.{on_content}
@@ -23,7 +23,6 @@ use Rattle.model.proofs.ReadBack.{leb_not}
 use Rattle.model.proofs.Fronts.{can_die, never}
 use Rattle.model.proofs.Fits.{Fits}
 use Rattle.model.proofs.Ways.{one_read, step_by}
-use Rattle.model.proofs.Local.{reads}
 use Rattle.model.proofs.Accepting.{accepted, accepted_back, acted_as, refused_as}
 
 -- ---- the table

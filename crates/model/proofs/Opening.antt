@@ -5,9 +5,7 @@ use mathlib.Core.List.{Memᴰ}
 use Rattle.octets.specs.declared.role.Role.{Role}
 use Rattle.octets.specs.declared.role.Role.TheVariants.{Client, Server}
 use Rattle.octets.specs.Roles.{peer}
-use Rattle.octets.specs.Octets.{same}
 use Rattle.records.specs.Kinds.{handshake_kind}
-use Rattle.records.specs.Records.{more}
 use Rattle.model.specs.Stages.{is_open, over}
 use Rattle.model.specs.Messages.{finished, first_shared, suite_of}
 use Rattle.model.specs.Schedule.{Schedule, ScheduleLaws, joined_octets}

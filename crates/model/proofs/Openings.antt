@@ -9,7 +9,7 @@ use Rattle.model.specs.Stages.{is_open}
 use Rattle.model.specs.Schedule.{Schedule, ScheduleLaws}
 use Rattle.model.specs.Protections.{Protection}
 use Rattle.model.specs.Endpoint.{End, Call}
-use Rattle.model.specs.Outcomes.{under, Outcome, refusing}
+use Rattle.model.specs.Outcomes.{Outcome, refusing}
 use Rattle.model.specs.Deeds.{Deed, waits, halts, closes, raises, client_changes, server_changes, buffers, releases, takes_client_hello, takes_server_hello, takes_done, keeps_certificates, keeps_signature, keeps_wrapped, fails_check, client_opens, server_opens, greets, offers, trusts_certificates, trusts_signature, exchanges, unwraps, sends, finished_of, perform}
 use Rattle.model.specs.Contents.{on_content}
 use Rattle.model.specs.Steps.{step}

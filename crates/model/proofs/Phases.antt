@@ -16,8 +16,6 @@ use Rattle.model.specs.Outcomes.{Write, bare, Outcome, flat, output, consuming}
 use Rattle.model.specs.Deeds.{changing, first_sealed, flight, in_records}
 use Rattle.model.specs.Runs.{Check, secret, sealed_in}
 use Rattle.model.specs.Law.{counts, left}
-use Rattle.model.proofs.Local.{reads}
-use Rattle.model.proofs.Readings.{opened}
 use Rattle.model.proofs.Accepting.{Still, drop-framed, leb_five}
 use Rattle.model.proofs.Stances.{Fresh}
 use Rattle.model.proofs.Talks.{Ok2, Queue, Talk, TalkOk}

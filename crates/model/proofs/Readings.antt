@@ -4,7 +4,6 @@ use mathlib.Core.List.{Memᴰ}
 use Rattle.octets.specs.declared.role.Role.{Role}
 use Rattle.octets.specs.declared.role.Role.TheVariants.{Client, Server}
 use Rattle.octets.specs.Roles.{peer}
-use Rattle.records.specs.Records.{more}
 use Rattle.model.specs.Stages.{over}
 use Rattle.model.specs.Schedule.{Schedule}
 use Rattle.model.specs.Protections.{Protection}
@@ -15,7 +14,7 @@ use Rattle.model.specs.Runs.{Run, newly_made, by, Past, no_past, sealed_in, late
 use Rattle.model.specs.Law.{readings}
 use Rattle.model.proofs.Lists.{Numbered, begins_more, begins_trans, found, numbered-++, numbered_at, readings-++}
 use Rattle.model.proofs.Sent.{sent_run}
-use Rattle.model.proofs.Local.{Local, Sound, at, local, reads}
+use Rattle.model.proofs.Local.{Local, Sound, local}
 
 all_found : (xs ys os : List Protected) → Numbered 0 ys → Numbered (length xs) os → ((x : Protected) → Memᴰ x os → Memᴰ x ys) → Begins xs ys → Begins (xs ++ os) ys
 all_found xs ys [] n k g b = rw append-nil b

@@ -3,7 +3,7 @@ use Rattle.std.proofs.Common.{◌≡◌, ℕ, ◌+◌, ◌*◌, ◌/◌, ◌%◌
 use Rattle.octets.specs.declared.role.Role.TheVariants.{Client, Server}
 use Rattle.octets.specs.Octets.{Octets}
 use Rattle.records.specs.Kinds.{alert_kind, handshake_kind, data_kind}
-use Rattle.records.specs.Records.{framed, whole}
+use Rattle.records.specs.Records.{framed}
 use Rattle.protection.specs.Limits.{growth, fresh_size}
 use Rattle.protection.specs.Keys.{Keying}
 use Rattle.protection.specs.Owed.{Sealable}
@@ -17,7 +17,7 @@ use Rattle.model.specs.Messages.{client_hello, server_hello, certificate, server
 use Rattle.model.specs.Schedule.{Schedule, ScheduleLaws, absorbed}
 use Rattle.model.specs.Protections.{Protection, Lawful, Held, keyed_with, sealed_with}
 use Rattle.model.specs.Endpoint.{End, Parts, Call}
-use Rattle.model.specs.Outcomes.{Write, bare, under, octets, flat, put}
+use Rattle.model.specs.Outcomes.{Write, bare, flat, put}
 use Rattle.model.specs.Deeds.{Deed, waits, halts, closes, raises, client_changes, server_changes, buffers, releases, takes_client_hello, takes_server_hello, takes_done, keeps_certificates, keeps_signature, keeps_wrapped, fails_check, client_opens, server_opens, greets, offers, trusts_certificates, trusts_signature, exchanges, unwraps, sends, alerting, changing, first_sealed, flight, in_records, keyed, perform}
 use Rattle.model.specs.Refusals.{certificates_fit, parts_fit}
 use Rattle.model.specs.Contents.{on_content}
@@ -28,7 +28,6 @@ use Rattle.model.proofs.Fronts.{never}
 use Rattle.model.proofs.Fits.{Fits, SendsOctets, content_sends}
 use Rattle.model.proofs.Ways.{one_read, step_by}
 use Rattle.model.proofs.Accepting.{Sendable, sealable}
-use Rattle.model.proofs.Sealing.{verify_length, verify_octets}
 
 -- ---- how long messages are
 client_hello_exact : (r ss : List ℕ) → length (client_hello_body r ss) ≡ 7 + length r + 2 * length ss

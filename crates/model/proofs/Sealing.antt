@@ -4,7 +4,6 @@ use Rattle.octets.specs.declared.role.Role.{Role}
 use Rattle.octets.specs.declared.role.Role.TheVariants.{Client, Server}
 use Rattle.octets.specs.Octets.{Octets}
 use Rattle.octets.proofs.Alike.{same_self}
-use Rattle.records.specs.Records.{whole}
 use Rattle.protection.specs.Limits.{content_limit, sealed_limit}
 use Rattle.protection.specs.Keys.{Keying}
 use Rattle.protection.specs.Owed.{Keyed}
@@ -16,11 +15,9 @@ use Rattle.model.specs.Messages.{finished}
 use Rattle.model.specs.Schedule.{Schedule, absorbed}
 use Rattle.model.specs.Protections.{Protection, sealed_with, opened_with}
 use Rattle.model.specs.Endpoint.{Parts}
-use Rattle.model.specs.Outcomes.{octets}
 use Rattle.model.specs.Deeds.{takes_client_hello, takes_server_hello, takes_done, keeps_certificates, keeps_signature, keeps_wrapped, client_opens, server_opens}
 use Rattle.model.specs.Turns.{turned}
 use Rattle.model.proofs.ReadBack.{client_hello_length, client_versioned, eqb_is, exchange_length, read_back_certificate, read_back_client, read_back_exchange, read_back_server, server_hello_length, server_versioned}
-use Rattle.model.proofs.Opening.{opens}
 use Rattle.model.proofs.Accepting.{Sendable, sealable}
 use Rattle.model.proofs.Stances.{Fresh}
 use Rattle.model.proofs.Talks.{Ok2, Talk, TalkOk, no_other_version}

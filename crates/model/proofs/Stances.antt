@@ -23,7 +23,6 @@ use Rattle.model.specs.EndLaws.{BringsOctets}
 use Rattle.model.specs.Runs.{Begins}
 use Rattle.model.specs.Law.{counts, CalmAs, SaysYes, YesAs}
 use Rattle.model.proofs.Ways.{answer_facts, send_facts, turn_facts}
-use Rattle.model.proofs.Local.{at}
 use Rattle.model.proofs.Accepting.{Sendable, Still, accepted, acted_as, begins_none, closing, either, framed_front, kind_whole, looks, still_more, still_refused}
 
 module _ {H : Type 0} (K : Schedule H) (P : Protection) where

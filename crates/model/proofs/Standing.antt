@@ -6,7 +6,6 @@ use Rattle.octets.specs.declared.role.Role.{Role}
 use Rattle.octets.specs.declared.role.Role.TheVariants.{Client, Server}
 use Rattle.octets.specs.Roles.{peer}
 use Rattle.model.specs.Stages.{is_open, over}
-use Rattle.model.specs.Messages.{finished}
 use Rattle.model.specs.Schedule.{Schedule}
 use Rattle.model.specs.Protections.{Protection}
 use Rattle.model.specs.Endpoint.{End}
@@ -18,8 +17,7 @@ use Rattle.model.proofs.Lists.{readings-++}
 use Rattle.model.proofs.ReadBack.{leb_is}
 use Rattle.model.proofs.Fronts.{never}
 use Rattle.model.proofs.Sent.{sent_run}
-use Rattle.model.proofs.Readings.{Solo, opened, solo}
-use Rattle.model.proofs.Taking.{freed}
+use Rattle.model.proofs.Readings.{Solo, solo}
 use Rattle.model.proofs.Logs.{Log, OneEach, each_alike, log_of}
 use Rattle.model.proofs.Phases.{Phase, Setting, c1, c2, ph0, ph1, ph10, ph11, ph12, ph13, ph14, ph15, ph16, ph17, ph18, ph19, ph2, ph20, ph21, ph22, ph23, ph24, ph3, ph4, ph5, ph6, ph7, ph8, ph9}
 use Rattle.model.proofs.ClientMoves.{client_moves}

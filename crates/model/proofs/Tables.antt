@@ -25,7 +25,6 @@ use Rattle.model.specs.EndLaws.{leads_to, MadeBy, AllMade}
 use Rattle.model.proofs.ReadBack.{next-message}
 use Rattle.model.proofs.Fronts.{never}
 use Rattle.model.proofs.Accepting.{acted_as}
-use Rattle.model.proofs.Sealing.{verify_length}
 
 abbrev f16 : List ℕ
 f16 = 0 ∷ (0 ∷ (0 ∷ (0 ∷ (0 ∷ (0 ∷ (0 ∷ (0 ∷ (0 ∷ (0 ∷ (0 ∷ (0 ∷ (0 ∷ (0 ∷ (0 ∷ (0 ∷ [])))))))))))))))

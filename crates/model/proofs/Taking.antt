@@ -18,7 +18,6 @@ use Rattle.model.specs.Steps.{on_opening, on_record, step}
 use Rattle.model.specs.EndLaws.{BringsOctets}
 use Rattle.model.specs.Law.{counts, CalmAs}
 use Rattle.model.proofs.ReadBack.{leb_is, leb_not}
-use Rattle.model.proofs.Local.{reads}
 use Rattle.model.proofs.Accepting.{Still}
 use Rattle.model.proofs.Stances.{Plain, Sends, open_takes, takes}
 

@@ -1,12 +1,12 @@
 -- The laws, with SM3 and its key schedule.
-use Rattle.std.proofs.Common.{◌≡◌, sym, refl, ap}
+use Rattle.std.proofs.Common.{sym, ap}
 use Rattle.sm3.specs.Hash.{finished}
 use Rattle.sm3.proofs.Running.{absorb_none, absorb-++, finished_is}
 use Rattle.key_schedule.specs.Schedule.{verify_data}
 use Rattle.key_schedule.proofs.Keys.{length-key_material, key_material_octets, length-verify_data, verify_data_octets}
 use Rattle.model.specs.Schedule.{ScheduleLaws, joined_octets}
 use Rattle.model.specs.Protections.{Protection, Lawful}
-use Rattle.model.specs.Runs.{Check, value}
+use Rattle.model.specs.Runs.{value}
 use Rattle.model.specs.Tlcp.{tlcp, TranscriptIsSm3, EndLawsStand, BenchStands, LawOfLines}
 use Rattle.model.proofs.EndLaws.{end_laws}
 use Rattle.model.proofs.Bench.{bench}

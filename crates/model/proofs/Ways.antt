@@ -16,7 +16,7 @@ use Rattle.model.specs.Limits.{reply_space, send_space, place_space, send_limit,
 use Rattle.model.specs.Schedule.{Schedule}
 use Rattle.model.specs.Protections.{Protection, opened_with}
 use Rattle.model.specs.Endpoint.{End, Answer, Call, hand_in, turn, answer, look, send, close, with_in}
-use Rattle.model.specs.Outcomes.{Protected, under, Outcome, writing, refusing, consuming, wanting, noting}
+use Rattle.model.specs.Outcomes.{Protected, Outcome, writing, refusing, consuming, wanting, noting}
 use Rattle.model.specs.Deeds.{Deed, waits, closes, raises, sends, perform}
 use Rattle.model.specs.Refusals.{within, lengths_fit, takes_answer, asked_as, message_ready, refusal}
 use Rattle.model.specs.Contents.{on_content}

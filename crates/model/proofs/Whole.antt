@@ -2,7 +2,6 @@
 use Rattle.std.proofs.Common.{◌≡◌, ℕ, ◌≤◌, Bool, true, false, cond, not, ◌&&◌, eqb, List, [], ◌∷◌, length, Some, None, Option, sym, refl, ap, inl, arith, eqb-true}
 use Rattle.octets.specs.declared.role.Role.{Role}
 use Rattle.octets.specs.declared.role.Role.TheVariants.{Client, Server}
-use Rattle.records.specs.Records.{whole}
 use Rattle.records.specs.Kinds.{data_kind}
 use Rattle.protection.specs.Keys.{Keying}
 use Rattle.handshake.specs.Parts.{among}

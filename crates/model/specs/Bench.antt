@@ -1,12 +1,11 @@
 -- The pieces for the bench, as one fact about the definitions: of every hash and every protection, of every end
 -- at the stage named with an empty buffer, with any output and opening place of sufficient size; the whole result of each.
-use Rattle.std.specs.Prelude.{◌≡◌, ℕ, ◌≤◌, Bool, true, false, List, [], ◌∷◌, length, Some, None, Ok, Option}
+use Rattle.std.specs.Prelude.{◌≡◌, ℕ, ◌≤◌, true, false, List, [], ◌∷◌, length, Some, None, Ok}
 use Rattle.octets.specs.Laid.{laid}
 use Rattle.records.specs.declared.fault.Layer.{Layer}
 use Rattle.records.specs.declared.fault.Layer.TheVariants.{Record as AtRecord, Content as AtContent}
 use Rattle.records.specs.Kinds.{alert_kind}
 use Rattle.protection.specs.Limits.{fresh_size}
-use Rattle.model.specs.declared.stage.Stage.{Stage}
 use Rattle.model.specs.declared.stage.Stage.TheVariants.{AwaitClientKeyExchange, ServerAwaitChange, ServerAwaitFinished, Dead}
 use Rattle.model.specs.Stages.{asking, over}
 use Rattle.model.specs.Limits.{reply_space, place_space}
@@ -15,7 +14,7 @@ use Rattle.model.specs.Protections.{Protection}
 use Rattle.model.specs.Endpoint.{End, with_stage, with_in, numbered, gone}
 use Rattle.model.specs.Outcomes.{octets, put}
 use Rattle.model.specs.Deeds.{alerting}
-use Rattle.model.specs.Results.{Told, Seen, zeros, hand_in_yields}
+use Rattle.model.specs.Results.{Seen, zeros, hand_in_yields}
 
 module _ {H : Type 0} where
   -- an end that takes records: not over, no question open, nothing buffered

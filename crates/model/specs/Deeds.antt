@@ -1,19 +1,17 @@
 -- What an accepted call does: one case for each effect, and no tests. Which of them a call does is decided elsewhere.
-use Rattle.std.specs.Prelude.{ℕ, ◌+◌, ◌-◌, true, List, [], ◌∷◌, ◌++◌, length, replicate}
+use Rattle.std.specs.Prelude.{ℕ, ◌-◌, true, List, [], ◌∷◌, ◌++◌, length, replicate}
 use Rattle.octets.specs.declared.role.Role.{Role}
 use Rattle.octets.specs.declared.role.Role.TheVariants.{Client, Server}
 use Rattle.records.specs.declared.fault.Layer.{Layer}
 use Rattle.records.specs.declared.fault.Layer.TheVariants.{Stage as AtStage}
 use Rattle.records.specs.Kinds.{alert_kind, handshake_kind, change_kind, data_kind}
-use Rattle.model.specs.declared.stage.Stage.{Stage}
 use Rattle.model.specs.declared.stage.Stage.TheVariants.{AwaitServerHello, AwaitCertificate, AskCertificates, AwaitServerKeyExchange, AskSignature, AwaitServerHelloDone, AskWrapping, ClientAwaitChange, ClientAwaitFinished, AskServerFlight, AwaitClientKeyExchange, AskUnwrapping, ServerAwaitChange, ServerAwaitFinished, Closed, Dead}
-use Rattle.protection.specs.Keys.{Keying}
 use Rattle.protection.specs.Limits.{material_limit}
 use Rattle.model.specs.Messages.{client_hello, server_hello, certificate, server_key_exchange, server_hello_done, client_key_exchange, finished}
 use Rattle.model.specs.Schedule.{Schedule, absorbed}
 use Rattle.model.specs.Protections.{Protection, keyed_with}
 use Rattle.model.specs.Endpoint.{End, Parts, no_keys, with_stage, with_buffer, with_transcript, with_hello, with_keys, with_in, with_out, numbered, gone, opened_end}
-use Rattle.model.specs.Outcomes.{Protected, Write, bare, under, Fault, Outcome, put, writing, faulting, joining, releasing, sending, answering, making, comparing}
+use Rattle.model.specs.Outcomes.{Write, bare, under, Outcome, put, writing, faulting, joining, releasing, sending, answering, making, comparing}
 
 -- one case for each effect
 pub data Deed : Type 0 where

@@ -14,7 +14,7 @@ use Rattle.model.specs.Limits.{buffer_size, suite_limit, reply_space, send_space
 use Rattle.model.specs.Schedule.{Schedule, joined_octets}
 use Rattle.model.specs.Protections.{Protection, Held, opened_with}
 use Rattle.model.specs.Endpoint.{End, Call, hand_in, turn, answer, look, send, close, no_master, no_keys}
-use Rattle.model.specs.Outcomes.{Protected, Write, bare, under, Fault, Outcome, put, output, refusing}
+use Rattle.model.specs.Outcomes.{Protected, Write, Fault, Outcome, put, output, refusing}
 use Rattle.model.specs.Deeds.{alerting}
 use Rattle.model.specs.Steps.{Steps}
 use Rattle.model.specs.Sends.{brought}

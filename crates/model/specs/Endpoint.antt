@@ -1,5 +1,5 @@
 -- An end as the definitions see it, and the calls with all that they bring.
-use Rattle.std.specs.Prelude.{ℕ, ◌+◌, Bool, true, false, cond, List, [], replicate, Option}
+use Rattle.std.specs.Prelude.{ℕ, ◌+◌, Bool, false, cond, List, [], replicate, Option}
 use Rattle.octets.specs.declared.role.Role.{Role}
 use Rattle.model.specs.declared.stage.Stage.{Stage}
 use Rattle.model.specs.declared.stage.Stage.TheVariants.{Open}

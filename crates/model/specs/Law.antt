@@ -1,5 +1,5 @@
 -- Undisturbed runs with willing cards, and the whole law of the line.
-use Rattle.std.specs.Prelude.{◌≡◌, ℕ, ◌+◌, Bool, true, false, cond, ◌&&◌, ◌⊎◌, List, [], ◌∷◌, ◌++◌, length, drop, Some, None, Option, ◌==◌, ◌≢◌, nat_le}
+use Rattle.std.specs.Prelude.{◌≡◌, ℕ, ◌+◌, Bool, false, cond, ◌&&◌, ◌⊎◌, List, [], ◌∷◌, ◌++◌, length, drop, Some, None, Option, ◌==◌, ◌≢◌, nat_le}
 use Rattle.octets.specs.declared.role.Role.{Role}
 use Rattle.octets.specs.declared.role.Role.TheVariants.{Client, Server}
 use Rattle.octets.specs.Roles.{peer}
@@ -13,7 +13,7 @@ use Rattle.model.specs.Messages.{first_shared}
 use Rattle.model.specs.Schedule.{Schedule}
 use Rattle.model.specs.Protections.{Protection}
 use Rattle.model.specs.Endpoint.{End, Call, hand_in, turn, answer, look, send, close, Answer, yes, no}
-use Rattle.model.specs.Outcomes.{Protected, Write, bare, under, Outcome, octets, flat, output}
+use Rattle.model.specs.Outcomes.{Protected, Write, under, Outcome, octets, flat, output}
 use Rattle.model.specs.Refusals.{set_up_refusal}
 use Rattle.model.specs.Steps.{Steps}
 use Rattle.model.specs.EndLaws.{BringsOctets}

@@ -11,7 +11,6 @@ use Rattle.handshake.specs.Parts.{versioned, among}
 use Rattle.handshake.specs.Frames.{next, is_ready}
 use Rattle.model.specs.Stages.{asks, asking, is_open, over, question_number}
 use Rattle.model.specs.Limits.{reply_space, send_space, place_space, suite_limit, send_limit, random_size, session_size, premaster_size, certificate_limit, signature_limit, wrapping_limit}
-use Rattle.model.specs.Protections.{Protection}
 use Rattle.model.specs.Endpoint.{End, Parts, Answer, yes, no, Call, hand_in, turn, answer, look, send, close}
 
 -- a ground: whether it fits, and the refusal that it gives

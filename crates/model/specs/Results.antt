@@ -1,6 +1,6 @@
 -- What the caller sees of every call: result, end, output and opening place afterwards; what a look shows;
 -- what a set-up makes.
-use Rattle.std.specs.Prelude.{ℕ, ◌+◌, ◌-◌, Bool, true, false, cond, List, [], ◌∷◌, ◌++◌, length, replicate, Some, None, Ok, Err, Option, Result}
+use Rattle.std.specs.Prelude.{ℕ, ◌+◌, ◌-◌, Bool, List, [], ◌∷◌, ◌++◌, length, replicate, Some, None, Ok, Err, Option, Result}
 use Rattle.octets.specs.declared.role.Role.{Role}
 use Rattle.octets.specs.Laid.{laid}
 use Rattle.protection.specs.Keys.{Keying}

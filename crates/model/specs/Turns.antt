@@ -1,5 +1,5 @@
 -- What a message leads to when it is turned: stage and message type together decide.
-use Rattle.std.specs.Prelude.{ℕ, Bool, true, false, cond, ◌&&◌, List, [], ◌∷◌, length, Some, None, Option, ◌==◌}
+use Rattle.std.specs.Prelude.{ℕ, cond, ◌&&◌, List, length, Some, None, Option, ◌==◌}
 use Rattle.octets.specs.declared.role.Role.{Role}
 use Rattle.octets.specs.declared.role.Role.TheVariants.{Client, Server}
 use Rattle.octets.specs.Octets.{same}

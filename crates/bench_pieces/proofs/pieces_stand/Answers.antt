@@ -1,7 +1,5 @@
-use mathlib.Core.Path.{◌≡◌, refl, ap, ◌∙◌}
-use mathlib.Core.List.{List}
+use mathlib.Core.Path.{ap, ◌∙◌}
 use Prim.Native.Nat.{ℕ, ◌+◌, ◌*◌, ◌/◌}
-use lib.ListN.{length}
 use Rattle.cbc_protection.specs.Sealed.{sealed_length}
 use Rattle.model.specs.Tlcp.{tlcp}
 use Rattle.model.proofs.Bench.{bench}

@@ -1,4 +1,4 @@
-use Rattle.std.proofs.Common.{◌≡◌, sym, refl, ap, ◌∙◌}
+use Rattle.std.proofs.Common.{sym, refl, ap, ◌∙◌}
 use Rattle.handshake.specs.Frames.{next}
 use Rattle.model.specs.declared.stage.Stage.TheVariants.{AwaitServerKeyExchange, AwaitServerHelloDone}
 use Rattle.model.specs.Deeds.{perform, trusts_certificates, trusts_signature}

@@ -1,5 +1,4 @@
-use Rattle.std.proofs.Common.{◌≡◌, ◌+◌, ◌≤◌, cond, arith}
-use Rattle.model.specs.Stages.{over}
+use Rattle.std.proofs.Common.{◌≤◌, arith}
 use Rattle.end_answering.proofs.greeting.write_greeting.Goals as goal
 
 pub invariant_of-state : goal.invariant_of-state

@@ -1,4 +1,4 @@
-use Rattle.std.proofs.Common.{◌≡◌, sym, ap, ◌∙◌}
+use Rattle.std.proofs.Common.{sym, ap, ◌∙◌}
 use Rattle.handshake.specs.Frames.{next}
 use Rattle.end_writer.specs.Kind.{kind_of}
 use Rattle.end_state.specs.View.{view}

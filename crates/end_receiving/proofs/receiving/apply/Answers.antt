@@ -1,10 +1,10 @@
-use Rattle.std.proofs.Common.{◌≡◌, sym, refl, ap, ◌∙◌}
+use Rattle.std.proofs.Common.{refl, ap}
 use Rattle.model.specs.Deeds.{perform}
 use Rattle.model.specs.Endpoint.{with_buffer}
 use Rattle.model.specs.Tlcp.{tlcp}
 use Rattle.end_writer.specs.Kind.{kind_of}
 use Rattle.end_rules.specs.Effects.{effect_deed}
-use Rattle.end_rules.specs.declared.content.ContentEffect.TheVariants.{PassBy, Close, Die, ClientChange, ServerChange, Buffer, Release}
+use Rattle.end_rules.specs.declared.content.ContentEffect.TheVariants.{PassBy, Die, ClientChange, ServerChange, Buffer, Release}
 use Rattle.end_state.specs.View.{state_view, buffer_view}
 use Rattle.end_state.specs.View.{view}
 use Rattle.end_reports.proofs.Yields.{quiet_done}

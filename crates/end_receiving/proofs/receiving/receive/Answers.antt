@@ -1,5 +1,4 @@
-use Rattle.std.proofs.Common.{◌≡◌, ℕ, ◌+◌, ◌-◌, ◌≤◌, false, ◌++◌, length, take, Ok, Err, sym, refl, ap, ◌∙◌, arith, rules}
-use native.Mathlib.Nat.{sub-zero}
+use Rattle.std.proofs.Common.{◌≡◌, ◌-◌, ◌≤◌, ◌++◌, length, take, Ok, Err, refl, ap, ◌∙◌, arith, rules}
 use Rattle.std.proofs.lemmas.Result.{err_from_is_err_and}
 use Rattle.sm3.specs.Hash.{Running}
 use Rattle.handshake.specs.Parts.{is_none}
@@ -11,9 +10,9 @@ use Rattle.model.specs.Tlcp.{tlcp}
 use Rattle.end_state.specs.declared.state.HandshakeBuffer.{HandshakeBuffer}
 use Rattle.end_reports.specs.Reports.{done}
 use Rattle.end_writer.specs.Kind.{kind_of}
-use Rattle.end_rules.specs.Effects.{effect_deed, content_deed}
+use Rattle.end_rules.specs.Effects.{effect_deed}
 use Rattle.end_state.specs.View.{view}
-use Rattle.end_receiving.specs.Contents.{content_at, counted_at, after_content, content_placed, kept_by}
+use Rattle.end_receiving.specs.Contents.{content_at, counted_at, after_content, kept_by}
 use Rattle.end_receiving.proofs.Receives.{from_length, from_fault, content_front, judged_short, takes_no_content, takes_fault, takes_done, judged_as, joins_fit, still_running}
 use Rattle.end_receiving.proofs.receiving.receive.Goals as goal
 

@@ -1,4 +1,4 @@
-use Rattle.std.proofs.Common.{◌≡◌, Bool, true, false, length, sym, refl, ap, ◌∙◌, arith, rules}
+use Rattle.std.proofs.Common.{◌≡◌, true, false, length, ap, ◌∙◌, rules}
 use Rattle.end_writer.specs.Kind.{kind_of}
 use Rattle.end_state.specs.View.{view}
 use Rattle.records.specs.Kinds.{known_kind}

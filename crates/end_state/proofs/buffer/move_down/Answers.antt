@@ -1,4 +1,4 @@
-use Rattle.std.proofs.Common.{◌+◌, ◌<◌, length, arith}
+use Rattle.std.proofs.Common.{arith}
 use Rattle.end_state.proofs.Buffers.{moved_more}
 use Rattle.end_state.proofs.buffer.move_down.Goals as goal
 

@@ -1,4 +1,4 @@
-use Rattle.std.proofs.Common.{rules, Option, List, ℕ}
+use Rattle.std.proofs.Common.{rules}
 use Rattle.model.proofs.Alone.{on_server_hello_alone}
 use Rattle.end_turning.proofs.awaited.turn_server_hello.Goals as goal
 

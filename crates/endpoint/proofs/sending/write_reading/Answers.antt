@@ -1,4 +1,4 @@
-use Rattle.std.proofs.Common.{◌≡◌, None, sym, refl, ap, ◌∙◌, rules}
+use Rattle.std.proofs.Common.{None, refl, ap, rules}
 use Rattle.records.specs.Kinds.{data_kind}
 use Rattle.sm3.specs.Hash.{Running}
 use Rattle.model.specs.Endpoint.{End}

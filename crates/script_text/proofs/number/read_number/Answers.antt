@@ -1,4 +1,4 @@
-use Rattle.std.proofs.Common.{◌≡◌, sym, arith, rules}
+use Rattle.std.proofs.Common.{sym, arith}
 use Rattle.script_text.proofs.Digits.{digits_more, digits_stop, digits_all}
 use Rattle.script_text.proofs.number.read_number.Goals as goal
 

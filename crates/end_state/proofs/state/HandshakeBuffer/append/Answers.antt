@@ -1,4 +1,4 @@
-use Rattle.std.proofs.Common.{◌≡◌, ◌+◌, ◌≤◌, length, take, ap, ◌∙◌, arith, rules}
+use Rattle.std.proofs.Common.{rules}
 use Rattle.octets.proofs.Lays.{take-laid}
 use Rattle.end_state.proofs.state.HandshakeBuffer.append.Goals as goal
 

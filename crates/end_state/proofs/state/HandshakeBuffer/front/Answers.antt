@@ -1,4 +1,4 @@
-use Rattle.std.proofs.Common.{sym, rules}
+use Rattle.std.proofs.Common.{rules}
 use Rattle.std.proofs.lemmas.List.{take-take}
 use Rattle.end_state.proofs.state.HandshakeBuffer.front.Goals as goal
 

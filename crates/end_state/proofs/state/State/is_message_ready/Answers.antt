@@ -1,4 +1,4 @@
-use Rattle.std.proofs.Common.{◌≡◌, ◌≤◌, length, sym, ap, ◌∙◌, arith}
+use Rattle.std.proofs.Common.{sym, ap, ◌∙◌, arith}
 use Rattle.handshake.specs.Frames.{next, is_ready}
 use Rattle.model.proofs.Limits.{unready_short}
 use Rattle.end_state.proofs.state.State.is_message_ready.Goals as goal

@@ -1,4 +1,3 @@
-use Rattle.std.proofs.Common.{rules}
 use Rattle.model.specs.Endpoint.{no_keys}
 use Rattle.end_state.proofs.state.State.key.Goals as goal
 

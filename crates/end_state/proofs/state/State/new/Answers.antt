@@ -1,4 +1,3 @@
-use Rattle.std.proofs.Common.{refl}
 use Rattle.model.specs.Endpoint.{no_master, no_random, no_keys}
 use Rattle.end_state.proofs.state.State.new.Goals as goal
 

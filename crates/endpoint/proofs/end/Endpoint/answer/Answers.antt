@@ -1,4 +1,4 @@
-use Rattle.std.proofs.Common.{◌≡◌, length, sym, refl, ◌∙◌}
+use Rattle.std.proofs.Common.{length, sym, refl, ◌∙◌}
 use Rattle.end_rules.specs.Views.{seen_answer}
 use Rattle.end_writer.specs.Kind.{kind_of}
 use Rattle.endpoint.specs.View.{view}

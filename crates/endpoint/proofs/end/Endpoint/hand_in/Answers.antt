@@ -1,4 +1,4 @@
-use Rattle.std.proofs.Common.{◌≡◌, Bool, true, false, length, sym, refl, ap, ◌∙◌, arith, rules}
+use Rattle.std.proofs.Common.{◌≡◌, false, length, sym, refl, ap, ◌∙◌, rules}
 use Rattle.end_writer.specs.Kind.{kind_of}
 use Rattle.endpoint.specs.View.{view}
 use Rattle.model.specs.Refusals.{hand_in_refusal}

@@ -1,4 +1,4 @@
-use Rattle.std.proofs.Common.{sym, refl, ◌∙◌, rules}
+use Rattle.std.proofs.Common.{sym, refl, ◌∙◌}
 use Rattle.end_writer.specs.Kind.{kind_of}
 use Rattle.endpoint.specs.View.{view}
 use Rattle.end_reports.proofs.Yields.{send_refused, send_accepted}
