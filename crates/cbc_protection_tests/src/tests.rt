@@ -46,7 +46,7 @@ fn opens(rt: &impl Abort, case: Case) -> Result<(), Fail> {
         .ok_or("refused")?;
     assert_eq!(rt; size, case.size);
     assert_eq!(rt; place.get(0..size), whole.get(0..case.size));
-    assert_eq!(rt; place.get(size), Some(&0u8));
+    assert_eq!(rt; place.get(size).copied(), Some(0u8));
     Ok(())
 }
 
