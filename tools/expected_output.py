@@ -7,29 +7,16 @@ Python's `cryptography` package over OpenSSL (SM3, HMAC, SM4 in CBC and GCM mode
 import struct
 import sys
 
-from cryptography.hazmat.primitives import hashes, hmac
+from cryptography.hazmat.primitives import hashes
 from cryptography.hazmat.primitives.ciphers import Cipher, algorithms, modes
+
+from other_prf import mac, prf
 
 
 def sm3(data):
     h = hashes.Hash(hashes.SM3())
     h.update(data)
     return h.finalize()
-
-
-def mac(key, data):
-    h = hmac.HMAC(key, hashes.SM3())
-    h.update(data)
-    return h.finalize()
-
-
-def prf(secret, label, seed, n):
-    seed = label + seed
-    out, a = b"", seed
-    while len(out) < n:
-        a = mac(secret, a)
-        out += mac(secret, a + seed)
-    return out[:n]
 
 
 def cbc(key, iv, data):

@@ -9,29 +9,15 @@ import struct
 import sys
 
 from cryptography.exceptions import InvalidTag
-from cryptography.hazmat.primitives import hashes, hmac
 from cryptography.hazmat.primitives.ciphers import Cipher, algorithms, modes
+
+from other_prf import mac, prf
 
 CBC, GCM = (0xE013, 0xE019), (0xE053, 0xE059)
 ALERTS = {0, 10, 20, 21, 22, 30, 40, 42, 43, 44, 45, 46, 47, 48, 49, 50, 51, 70, 71, 80, 90, 100, 200, 201, 202, 203, 204, 205}
 QUESTIONS = {1: 1, 22: 2, 4: 3, 6: 4, 8: 5, 24: 6}
 AWAITED = {2: 2, 3: 11, 5: 12, 7: 14, 10: 20, 21: 1, 23: 16, 26: 20}
 OPEN, CLOSED, DEAD = 11, 12, 13
-
-
-def mac(key, data):
-    h = hmac.HMAC(key, hashes.SM3())
-    h.update(data)
-    return h.finalize()
-
-
-def prf(secret, label, seed, n):
-    seed = label + seed
-    out, a = b"", seed
-    while len(out) < n:
-        a = mac(secret, a)
-        out += mac(secret, a + seed)
-    return out[:n]
 
 
 def two(n):
